@@ -6,29 +6,30 @@ use Prim.Native.Nat.{ℕ, ◌<◌}
 use native.Mathlib.Omega.{arith}
 use lib.ListN.{take}
 use lib.IntN.{ℤ}
-use Rattle.refusals.specs.declared.Verdict.{Verdict}
-use Rattle.refusals.specs.declared.Verdict.TheVariants as verdict
+use Rattle.std.specs.Prelude.{Result, Ok, Err}
+use Rattle.refusals.specs.declared.Refusal.{Refusal}
+use Rattle.refusals.specs.Refused.{refused}
+use Rattle.questions.specs.declared.Solution.{Solution}
+use Rattle.questions.specs.declared.Solution.TheVariants.{Can, Cannot}
 use Rattle.flows.specs.ProvingSet.{words_for}
 use Rattle.arrays.specs.At.{at, atℤ}
 use Rattle.arrays.proofs.FillLoops.{filled_front}
 use Rattle.records.specs.Sheet.{nodes_of, edges_of, sheet_drawing}
 use Rattle.questions.specs.inner.Named.{SetNamed}
-use Rattle.questions.specs.declared.SolveAnswer.{SolveAnswer}
-use Rattle.questions.specs.declared.SolveAnswer.TheVariants.{Can, Cannot, Refused}
 use Rattle.pages.specs.Stretch.{stretch}
-use Rattle.pages.specs.Page.{answer_at, PageAs}
+use Rattle.pages.specs.Page.{answer_at}
+use Rattle.pages.specs.declared.Page.{Page}
 use Rattle.pages.specs.Question.{question_in}
 use Rattle.answer_arrays.specs.Told.{number_told, size_told}
 use Rattle.analyser.specs.Solve.{solve_checks, Solves}
-use Rattle.analyser.specs.Page.{page_checks, solves_alone}
+use Rattle.analyser.specs.Page.{page_checks, AnswersPage}
+use Rattle.analyser.specs.inner.Named.{PageNamed}
 use Rattle.analyser.proofs.OneAnswer.{one_answer}
 use Rattle.key_text.specs.Question.{source_of, sink_of, value_of, sheet_of}
 use Rattle.key_text.specs.Text.{can_text, cannot_text, refused_text}
 use Rattle.key_text.specs.Key.{Prints, Writes, key_room_checks}
 use Rattle.key_text.specs.OneKey.{answer_text}
 use Rattle.key_text.specs.inner.Named.{KeyNamed, WriteNamed}
-use Rattle.key_text.specs.declared.KeyAnswer.{KeyAnswer}
-use Rattle.key_text.specs.declared.KeyAnswer.TheVariants as key
 use Rattle.key_text.proofs.OneKey.{one_key_text}
 use Rattle.abi.specs.Solve.{Told, TellsSolve}
 use Rattle.abi.specs.Page.{PageTold, TellsPage}
@@ -37,82 +38,78 @@ use Rattle.abi.specs.Statements.{OneAnswerInC}
 use Rattle.abi.proofs.Numbered.{first_numbered, solve_numbered, key_numbered, page_numbered}
 
 -- ── what is told follows from the answer ──
-told_one : (r : SolveAnswer) (can can' can'' size size' size'' place place' place'' result other : ℕ)
+told_one : (r : Result Solution Refusal) (can can' can'' size size' size'' place place' place'' result other : ℕ)
     → Told r result can can' size size' place place' → Told r other can can'' size size'' place place''
     → (result ≡ other) × (can' ≡ can'') × (size' ≡ size'') × (place' ≡ place'')
-told_one Can can can' can'' size size' size'' place place' place'' result other t u =
+told_one (Ok Can) can can' can'' size size' size'' place place' place'' result other t u =
     (t.0 ∙ sym u.0, t.1 ∙ sym u.1, t.2 ∙ sym u.2, t.3 ∙ sym u.3)
-told_one (Cannot n) can can' can'' size size' size'' place place' place'' result other t u =
+told_one (Ok (Cannot n)) can can' can'' size size' size'' place place' place'' result other t u =
     (t.0 ∙ sym u.0, t.1 ∙ sym u.1, t.2 ∙ sym u.2, t.3 ∙ sym u.3)
-told_one (Refused k p) can can' can'' size size' size'' place place' place'' result other t u =
+told_one (Err r) can can' can'' size size' size'' place place' place'' result other t u =
     (t.0 ∙ sym u.0, t.1 ∙ sym u.1, t.2 ∙ sym u.2, t.3 ∙ sym u.3)
 
 module _ (s : List ℕ) (source sink : ℕ) (value : ℤ) (flows flows' : List ℤ) (set set' : List ℕ) where
   -- a refusal of Solve is not told as 0
-  not_zero : (k p : ℕ) → Solves s source sink value flows flows' set set' (Refused k p) → k ≢ 0
-  not_zero k p h = first_numbered (solve_checks s source sink value flows set) k p (solve_numbered s source sink value flows set) h.0
+  not_zero : (r : Refusal) → Solves s source sink value flows flows' set set' (Err r) → r.number ≢ 0
+  not_zero r h = first_numbered (solve_checks s source sink value flows set) r.number r.place (solve_numbered s source sink value flows set) h.0
 
   -- what is told as "cannot" is such an answer
-  told_cannot : (r : SolveAnswer) (can size size' place place' : ℕ) → Solves s source sink value flows flows' set set' r
-      → Told r 0 can 0 size size' place place' → r ≡ Cannot size'
-  told_cannot Can can size size' place place' h t = absurd (omega (arith, t.1))
-  told_cannot (Cannot n) can size size' place place' h t = ap Cannot (sym t.2)
-  told_cannot (Refused k p) can size size' place place' h t = absurd (not_zero k p h (sym t.0))
+  told_cannot : (r : Result Solution Refusal) (can size size' place place' : ℕ) → Solves s source sink value flows flows' set set' r
+      → Told r 0 can 0 size size' place place' → r ≡ Ok (Cannot size')
+  told_cannot (Ok Can) can size size' place place' h t = absurd (omega (arith, t.1))
+  told_cannot (Ok (Cannot n)) can size size' place place' h t = ap (λ n. Ok (Cannot n)) (sym t.2)
+  told_cannot (Err r) can size size' place place' h t = absurd (not_zero r h (sym t.0))
 
 -- ── the numbers of a page's answer, and what Solve tells of the same ──
-told_number : (r : SolveAnswer) (can can' size size' place place' result : ℕ) → (((k p : ℕ) → r ≡ Refused k p → k ≢ 0))
+told_number : (r : Result Solution Refusal) (can can' size size' place place' result : ℕ) → ((e : Refusal) → r ≡ Err e → e.number ≢ 0)
     → Told r result can can' size size' place place'
     → (result ≡ 0 → number_told r ≡ can') × (result ≢ 0 → number_told r ≡ result) × (result ≡ 0 → can' ≡ 0 → size_told r ≡ size')
-told_number Can can can' size size' place place' result numbered t =
+told_number (Ok Can) can can' size size' place place' result numbered t =
     ((λ z. sym t.1), (λ n. absurd (n t.0)), (λ z c. absurd (omega (arith, t.1, c))))
-told_number (Cannot m) can can' size size' place place' result numbered t =
+told_number (Ok (Cannot m)) can can' size size' place place' result numbered t =
     ((λ z. sym t.1), (λ n. absurd (n t.0)), (λ z c. sym t.2))
-told_number (Refused k p) can can' size size' place place' result numbered t =
-    ((λ z. absurd (numbered k p refl (sym t.0 ∙ z))), (λ n. sym t.0), (λ z c. absurd (numbered k p refl (sym t.0 ∙ z))))
+told_number (Err r) can can' size size' place place' result numbered t =
+    ((λ z. absurd (numbered r refl (sym t.0 ∙ z))), (λ n. sym t.0), (λ z c. absurd (numbered r refl (sym t.0 ∙ z))))
 
 -- ── a page that is told as 0 passed ──
 module _ (s : List ℕ) (count : ℕ) (sources sinks : List ℕ) (values flows flows' : List ℤ) (sets sets' answers answers' sizes sizes' : List ℕ)
     (place place' : ℕ) (told : TellsPage s count sources sinks values flows flows' sets sets' answers answers' sizes sizes' place place' 0) where
-  abbrev TellsAs : Verdict → Type 0
-  TellsAs v = PageTold v count (answer_at told.0) answers answers' sizes sizes' place place' 0
-
-  passed : told.0.verdict ≡ verdict.Passed
-  passed = go told.0.verdict told.1.0 told.3
+  passed : (page : Page) × AnswersPage s count (question_in sources sinks values) flows flows' sets sets' (Ok page)
+      × PageNamed s count (question_in sources sinks values) sets' (Ok page) × PageTold (Ok page) count answers answers' sizes sizes' place place' 0
+  passed = go told.0 told.1 told.2 told.3
     where
-      go : (v : Verdict)
-          → PageAs (page_checks s count flows sets) (edges_of s) (words_for (nodes_of s)) count (λ i. solves_alone s (question_in sources sinks values i))
-          flows flows' sets sets' v told.0.count (answer_at told.0)
-          → TellsAs v → v ≡ verdict.Passed
-      go verdict.Passed h t = refl
-      go (verdict.Refused k p) h t = absurd (first_numbered (page_checks s count flows sets) k p (page_numbered s count flows sets) h.0 (sym t.0))
-
-  as_passed : TellsAs verdict.Passed
-  as_passed = subst TellsAs passed told.3
+      go : (answer : Result Page Refusal) → AnswersPage s count (question_in sources sinks values) flows flows' sets sets' answer
+          → PageNamed s count (question_in sources sinks values) sets' answer → PageTold answer count answers answers' sizes sizes' place place' 0
+          → (page : Page) × AnswersPage s count (question_in sources sinks values) flows flows' sets sets' (Ok page)
+          × PageNamed s count (question_in sources sinks values) sets' (Ok page) × PageTold (Ok page) count answers answers' sizes sizes' place place' 0
+      go (Ok page) h named t = (page, h, named, t)
+      go (Err r) h named t =
+          absurd (first_numbered (page_checks s count flows sets) r.number r.place (page_numbered s count flows sets) h.0 (sym t.0))
 
   module _ (i : ℕ) (l : i < count) (own' : List ℤ) (set' : List ℕ) (can can' size size' place₂ place₂' result : ℕ)
       (alone : TellsSolve s (at sources i) (at sinks i) (atℤ values i) (stretch (edges_of s) i flows) own' (stretch (words_for (nodes_of s)) i sets) set'
       can can' size size' place₂ place₂' result) where
-    abbrev Answered : SolveAnswer → Type 0
+    abbrev Answered : Result Solution Refusal → Type 0
     Answered = Solves s (at sources i) (at sinks i) (atℤ values i) (stretch (edges_of s) i flows) own' (stretch (words_for (nodes_of s)) i sets) set'
 
-    line : (answer_at told.0 i ≡ alone.0) × (stretch (edges_of s) i flows' ≡ own') × (stretch (words_for (nodes_of s)) i sets' ≡ set')
+    line : (answer_at passed.0 i ≡ alone.0) × (stretch (edges_of s) i flows' ≡ own') × (stretch (words_for (nodes_of s)) i sets' ≡ set')
     line =
-        one_answer.same_line s count (question_in sources sinks values) flows flows' sets sets' told.0 told.1 told.2 passed i l
+        one_answer.same_line s count (question_in sources sinks values) flows flows' sets sets' passed.0 passed.1 passed.2 i l
         own' set' alone.0 alone.1 alone.2
 
     numbers : (result ≡ 0 → number_told alone.0 ≡ can') × (result ≢ 0 → number_told alone.0 ≡ result)
         × (result ≡ 0 → can' ≡ 0 → size_told alone.0 ≡ size')
     numbers =
         told_number alone.0 can can' size size' place₂ place₂' result
-        (λ k p e. not_zero s (at sources i) (at sinks i) (atℤ values i) (stretch (edges_of s) i flows) own' (stretch (words_for (nodes_of s)) i sets) set' k p
-        (subst Answered e alone.1))
+        (λ e is. not_zero s (at sources i) (at sinks i) (atℤ values i) (stretch (edges_of s) i flows) own' (stretch (words_for (nodes_of s)) i sets) set' e
+        (subst Answered is alone.1))
         alone.3
 
     number_of : at answers' i ≡ number_told alone.0
-    number_of = filled_front 0 count (λ j. number_told (answer_at told.0 j)) answers answers' as_passed.1 i l ∙ ap number_told line.0
+    number_of = filled_front 0 count (λ j. number_told (answer_at passed.0 j)) answers answers' passed.3.1 i l ∙ ap number_told line.0
 
     size_of : at sizes' i ≡ size_told alone.0
-    size_of = filled_front 0 count (λ j. size_told (answer_at told.0 j)) sizes sizes' as_passed.2 i l ∙ ap size_told line.0
+    size_of = filled_front 0 count (λ j. size_told (answer_at passed.0 j)) sizes sizes' passed.3.2 i l ∙ ap size_told line.0
 
     same_line : (stretch (edges_of s) i flows' ≡ own') × (stretch (words_for (nodes_of s)) i sets' ≡ set')
         × (result ≡ 0 → at answers' i ≡ can') × (result ≢ 0 → at answers' i ≡ result) × (result ≡ 0 → can' ≡ 0 → at sizes' i ≡ size')
@@ -123,27 +120,27 @@ key_written : (b text text' : List ℕ) (length length' place place' : ℕ) → 
     → Prints b text text' length' × KeyNamed b text' length'
 key_written b text text' length length' place place' told = go told.0 told.1 told.2 told.3
   where
-    go : (r : KeyAnswer) → Writes b text text' r → WriteNamed b text' r → KeyTold r 0 length length' place place'
+    go : (r : Result ℕ Refusal) → Writes b text text' r → WriteNamed b text' r → KeyTold r 0 length length' place place'
         → Prints b text text' length' × KeyNamed b text' length'
-    go (key.Bytes n) h named t = (subst (Prints b text text') (sym t.1) h.1, subst (KeyNamed b text') (sym t.1) named)
-    go (key.Refused k p) h named t = absurd (first_numbered (key_room_checks text) k p (key_numbered text) h.0 (sym t.0))
+    go (Ok n) h named t = (subst (Prints b text text') (sym t.1) h.1, subst (KeyNamed b text') (sym t.1) named)
+    go (Err r) h named t = absurd (first_numbered (key_room_checks text) r.number r.place (key_numbered text) h.0 (sym t.0))
 
 -- ── the text of what Solve tells ──
 module _ (b text' : List ℕ) (n : ℕ) (flows flows' : List ℤ) (set set' : List ℕ) (can can' size size' place place' result : ℕ) where
-  told_text : (r : SolveAnswer) → Solves (sheet_of b) (source_of b) (sink_of b) (value_of b) flows flows' set set' r
-      → Told r result can can' size size' place place' → (r ≢ Refused 16 0 → take n text' ≡ answer_text b flows' set' r)
+  told_text : (r : Result Solution Refusal) → Solves (sheet_of b) (source_of b) (sink_of b) (value_of b) flows flows' set set' r
+      → Told r result can can' size size' place place' → (r ≢ refused 16 0 → take n text' ≡ answer_text b flows' set' r)
       → (result ≡ 0 → can' ≡ 1 → take n text' ≡ can_text (value_of b) (edges_of (sheet_of b)) (atℤ flows'))
       × (result ≡ 0 → can' ≡ 0 → take n text' ≡ cannot_text (value_of b) size' (nodes_of (sheet_of b)) set')
       × (result ≢ 0 → result ≢ 16 → take n text' ≡ refused_text result)
-  told_text Can h t text =
+  told_text (Ok Can) h t text =
       ((λ z c. text (λ e. omega (arith, ap number_told e))), (λ z c. absurd (omega (arith, t.1, c))), (λ m o. absurd (m t.0)))
-  told_text (Cannot k) h t text = (
+  told_text (Ok (Cannot k)) h t text = (
     (λ z c. absurd (omega (arith, t.1, c))),
     (λ z c. text (λ e. omega (arith, ap number_told e)) ∙ ap (λ j. cannot_text (value_of b) j (nodes_of (sheet_of b)) set') (sym t.2)),
     (λ m o. absurd (m t.0)),
   )
-  told_text (Refused k p) h t text =
-      let never = not_zero (sheet_of b) (source_of b) (sink_of b) (value_of b) flows flows' set set' k p h in (
+  told_text (Err r) h t text =
+      let never = not_zero (sheet_of b) (source_of b) (sink_of b) (value_of b) flows flows' set set' r h in (
         (λ z c. absurd (never (sym t.0 ∙ z))),
         (λ z c. absurd (never (sym t.0 ∙ z))),
         (λ m o. text (λ e. o (t.0 ∙ ap number_told e)) ∙ ap refused_text (sym t.0)),

@@ -21,18 +21,18 @@ ghost use Rattle.abi.specs.Dimacs.{TellsDimacs};
 ghost use Rattle.parties.specs.Shared.{shared_of, cleared};
 ghost use Rattle.abi.specs.Sessions.{TellsStart, TellsAsk, TellsCommit};
 
-use desk::Class;
-use dimacs::DimacsAnswer;
-use key_text::KeyAnswer;
-use levels::LevelAnswer;
 use parties::SessionSizes;
-use practice::PracticeAnswer;
-use questions::{LargestAnswer, MarkAnswer, SolveAnswer};
-use raising::RaiseAnswer;
-use ranges::RangeAnswer;
-use refusals::Verdict;
-use sheets::{ReadAnswer, WriteAnswer};
-use totals::TotalsAnswer;
+use questions::Solution;
+use refusals::Refusal;
+
+// A refusal as a C program is told it: its place is written, and its number is the result.
+fn refuse(refusal: Refusal, place: &mut u16) -> u8
+    ensures number { result ≡ refusal.number }
+    ensures place { place.new ≡ refusal.place }
+{
+    *place = refusal.place;
+    refusal.number
+}
 
 // Read. The counts of nodes and edges, the outer dart, and the three slices, two elements to an edge.
 #[unsafe(no_mangle)]
@@ -52,16 +52,13 @@ pub extern "C" fn analyser_read(
 {
     let answer = sheets::read(sheet, tails, rotations, capacities);
     match answer {
-        ReadAnswer::Counts(n, e, o) => {
-            *nodes = n;
-            *edges = e;
-            *outer = o;
+        Ok(counts) => {
+            *nodes = counts.nodes;
+            *edges = counts.edges;
+            *outer = counts.outer;
             0
         }
-        ReadAnswer::Refused(k, p) => {
-            *place = p;
-            k
-        }
+        Err(refusal) => refuse(refusal, place),
     }
 }
 
@@ -82,14 +79,11 @@ pub extern "C" fn analyser_write(
 {
     let answer = sheets::write(nodes, outer, tails, rotations, capacities, sheet);
     match answer {
-        WriteAnswer::Bytes(n) => {
+        Ok(n) => {
             *length = n;
             0
         }
-        WriteAnswer::Refused(k, p) => {
-            *place = p;
-            k
-        }
+        Err(refusal) => refuse(refusal, place),
     }
 }
 
@@ -111,19 +105,16 @@ pub extern "C" fn analyser_solve(
 {
     let answer = analyser::solve(sheet, source, sink, value, flows, set);
     match answer {
-        SolveAnswer::Can => {
+        Ok(Solution::Can) => {
             *can = 1;
             0
         }
-        SolveAnswer::Cannot(n) => {
+        Ok(Solution::Cannot(n)) => {
             *can = 0;
             *size = n;
             0
         }
-        SolveAnswer::Refused(k, p) => {
-            *place = p;
-            k
-        }
+        Err(refusal) => refuse(refusal, place),
     }
 }
 
@@ -144,19 +135,16 @@ pub extern "C" fn analyser_largest(
 {
     let answer = analyser::largest(sheet, source, sink, flows, set);
     match answer {
-        LargestAnswer::Value(v) => {
+        Ok(Some(v)) => {
             *found = 1;
             *value = v;
             0
         }
-        LargestAnswer::None => {
+        Ok(None) => {
             *found = 0;
             0
         }
-        LargestAnswer::Refused(k, p) => {
-            *place = p;
-            k
-        }
+        Err(refusal) => refuse(refusal, place),
     }
 }
 
@@ -182,20 +170,17 @@ pub extern "C" fn analyser_least_and_largest(
 {
     let answer = analyser::least_and_largest(sheet, source, sink, low, below, high, above);
     match answer {
-        RangeAnswer::Values(v, w) => {
+        Ok(Some(range)) => {
             *found = 1;
-            *least = v;
-            *largest = w;
+            *least = range.least;
+            *largest = range.largest;
             0
         }
-        RangeAnswer::None => {
+        Ok(None) => {
             *found = 0;
             0
         }
-        RangeAnswer::Refused(k, p) => {
-            *place = p;
-            k
-        }
+        Err(refusal) => refuse(refusal, place),
     }
 }
 
@@ -219,19 +204,16 @@ pub extern "C" fn analyser_raise_limit(
 {
     let answer = analyser::raise_limit(sheet, source, sink, value, edge, flows, set);
     match answer {
-        RaiseAnswer::Limit(v) => {
+        Ok(Some(v)) => {
             *found = 1;
             *limit = v;
             0
         }
-        RaiseAnswer::None => {
+        Ok(None) => {
             *found = 0;
             0
         }
-        RaiseAnswer::Refused(k, p) => {
-            *place = p;
-            k
-        }
+        Err(refusal) => refuse(refusal, place),
     }
 }
 
@@ -260,19 +242,16 @@ pub extern "C" fn analyser_largest_after(
         sheet, capture, window, named, source, sink, limits, flows, set,
     );
     match answer {
-        LargestAnswer::Value(v) => {
+        Ok(Some(v)) => {
             *found = 1;
             *value = v;
             0
         }
-        LargestAnswer::None => {
+        Ok(None) => {
             *found = 0;
             0
         }
-        LargestAnswer::Refused(k, p) => {
-            *place = p;
-            k
-        }
+        Err(refusal) => refuse(refusal, place),
     }
 }
 
@@ -297,15 +276,15 @@ pub extern "C" fn analyser_page(
         sizes.old sizes.new place.old place.new result }
 {
     let list = pages::list_from(count, sources, sinks, values);
-    let page = analyser::page_of(sheet, list, flows, sets);
-    let verdict = page.verdict;
-    if let Verdict::Refused(k, p) = verdict {
-        *place = p;
-        return k;
+    let answer = analyser::page_of(sheet, list, flows, sets);
+    match answer {
+        Ok(page) => {
+            answer_arrays::tell_numbers(page, answers);
+            answer_arrays::tell_sizes(page, sizes);
+            0
+        }
+        Err(refusal) => refuse(refusal, place),
     }
-    answer_arrays::tell_numbers(page, answers);
-    answer_arrays::tell_sizes(page, sizes);
-    0
 }
 
 // Mark. The value of given flows.
@@ -323,14 +302,11 @@ pub extern "C" fn analyser_mark(
 {
     let answer = analyser::mark(sheet, source, sink, flows);
     match answer {
-        MarkAnswer::Value(carried) => {
+        Ok(carried) => {
             *value = carried;
             0
         }
-        MarkAnswer::Refused(k, p) => {
-            *place = p;
-            k
-        }
+        Err(refusal) => refuse(refusal, place),
     }
 }
 
@@ -347,11 +323,8 @@ pub extern "C" fn analyser_levels_from_settings(
 {
     let answer = analyser::levels_from_settings(sheet, flows, levels);
     match answer {
-        LevelAnswer::Done => 0,
-        LevelAnswer::Refused(k, p) => {
-            *place = p;
-            k
-        }
+        Ok(()) => 0,
+        Err(refusal) => refuse(refusal, place),
     }
 }
 
@@ -368,11 +341,8 @@ pub extern "C" fn analyser_settings_from_levels(
 {
     let answer = analyser::settings_from_levels(sheet, levels, flows);
     match answer {
-        LevelAnswer::Done => 0,
-        LevelAnswer::Refused(k, p) => {
-            *place = p;
-            k
-        }
+        Ok(()) => 0,
+        Err(refusal) => refuse(refusal, place),
     }
 }
 
@@ -390,14 +360,11 @@ pub extern "C" fn analyser_totals(
 {
     let answer = analyser::totals(sheet, set, subtotals);
     match answer {
-        TotalsAnswer::Total(t) => {
+        Ok(t) => {
             *total = t;
             0
         }
-        TotalsAnswer::Refused(k, p) => {
-            *place = p;
-            k
-        }
+        Err(refusal) => refuse(refusal, place),
     }
 }
 
@@ -414,14 +381,11 @@ pub extern "C" fn analyser_key_text(
 {
     let answer = key_text::write_key(input, text);
     match answer {
-        KeyAnswer::Bytes(bytes) => {
+        Ok(bytes) => {
             *length = bytes;
             0
         }
-        KeyAnswer::Refused(k, p) => {
-            *place = p;
-            k
-        }
+        Err(refusal) => refuse(refusal, place),
     }
 }
 
@@ -440,14 +404,11 @@ pub extern "C" fn analyser_practice_sheet(
 {
     let answer = practice::practice_sheet(rows, columns, seed, sheet);
     match answer {
-        PracticeAnswer::Bytes(count) => {
+        Ok(count) => {
             *length = count;
             0
         }
-        PracticeAnswer::Refused(k, p) => {
-            *place = p;
-            k
-        }
+        Err(refusal) => refuse(refusal, place),
     }
 }
 
@@ -466,14 +427,11 @@ pub extern "C" fn analyser_write_dimacs(
 {
     let answer = analyser::write_dimacs(sheet, source, sink, text);
     match answer {
-        DimacsAnswer::Bytes(printed) => {
+        Ok(printed) => {
             *length = printed;
             0
         }
-        DimacsAnswer::Refused(k, p) => {
-            *place = p;
-            k
-        }
+        Err(refusal) => refuse(refusal, place),
     }
 }
 
@@ -499,26 +457,23 @@ pub extern "C" fn analyser_examine(
         sets.now points.old points.new number.old number.new sum.old sum.new
         least.old least.new greatest.old greatest.new place.old place.new result }
 {
-    let class = desk::examine(
+    let answer = desk::examine(
         sheet, source, sink, value, claims, kinds, settings, sets, points,
     );
-    match class {
-        Class::Empty => {
+    match answer {
+        Ok(None) => {
             *number = 0;
             *sum = 0;
             0
         }
-        Class::Marked(n, s, l, g) => {
-            *number = n;
-            *sum = s;
-            *least = l;
-            *greatest = g;
+        Ok(Some(marks)) => {
+            *number = marks.number;
+            *sum = marks.sum;
+            *least = marks.least;
+            *greatest = marks.greatest;
             0
         }
-        Class::Refused(k, p) => {
-            *place = p;
-            k
-        }
+        Err(refusal) => refuse(refusal, place),
     }
 }
 
@@ -547,11 +502,8 @@ pub extern "C" fn analyser_session_start(
         sheet, nodes, edges, outer, tails, rotations, limits, left, standing, first, second,
     );
     match answer {
-        Verdict::Passed => 0,
-        Verdict::Refused(k, p) => {
-            *place = p;
-            k
-        }
+        Ok(()) => 0,
+        Err(refusal) => refuse(refusal, place),
     }
 }
 
@@ -588,28 +540,25 @@ pub extern "C" fn analyser_session_ask<'a>(
         can.old can.new size.old size.new place.old place.new result }
 {
     let sizes = SessionSizes {
-        nodes: nodes,
-        edges: edges,
-        outer: outer,
+        nodes,
+        edges,
+        outer,
     };
     let answer = parties::ask(
         party, sizes, tails, rotations, limits, left, standing, first, second, source, sink, value,
         flows, set,
     );
     match answer {
-        SolveAnswer::Can => {
+        Ok(Solution::Can) => {
             *can = 1;
             0
         }
-        SolveAnswer::Cannot(n) => {
+        Ok(Solution::Cannot(n)) => {
             *can = 0;
             *size = n;
             0
         }
-        SolveAnswer::Refused(k, p) => {
-            *place = p;
-            k
-        }
+        Err(refusal) => refuse(refusal, place),
     }
 }
 
@@ -641,11 +590,8 @@ pub extern "C" fn analyser_session_commit<'a>(
         party, nodes, edges, outer, tails, rotations, limits, left, standing, first, second,
     );
     match answer {
-        Verdict::Passed => 0,
-        Verdict::Refused(k, p) => {
-            *place = p;
-            k
-        }
+        Ok(()) => 0,
+        Err(refusal) => refuse(refusal, place),
     }
 }
 

@@ -7,10 +7,12 @@ use Prim.Native.Nat.{ℕ, ◌+◌, ◌*◌, ◌<◌}
 use lib.ListN.{drop}
 use lib.IntN.{ℤ, pos, ◌+ℤ◌}
 use lib.Signed.{◌<ℤ◌}
+use Rattle.std.specs.Prelude.{Result, Ok, Err}
 use Rattle.integers.specs.Sum.{Integers, Naturals, sumℤ, when, bit, count}
 use Rattle.integers.proofs.Sums.{sum_ext, sum_nil}
 use Rattle.refusals.specs.Order.{NoneOf}
 use Rattle.refusals.proofs.Order.{append_none, first_none}
+use Rattle.refusals.specs.declared.Refusal.{Refusal}
 use Rattle.maps.specs.Map.{Map}
 use Rattle.maps.specs.Check.{InRange}
 use Rattle.maps.specs.Cut.{leaves, cut}
@@ -21,8 +23,6 @@ use Rattle.records.specs.Sheet.{nodes_of, edges_of, capacity_of, sheet_map}
 use Rattle.sheets.specs.Open.{sheet_checks}
 use Rattle.totals.specs.Subtotal.{subtotal, total}
 use Rattle.totals.specs.Totals.{total_checks}
-use Rattle.totals.specs.declared.TotalsAnswer.{TotalsAnswer}
-use Rattle.totals.specs.declared.TotalsAnswer.TheVariants.{Total, Refused}
 use Rattle.totals.proofs.Cutting.{total_cut, cut_by_edges, subtotal_agrees}
 use Rattle.totals.proofs.Listing.{listed_ext, listed_none, listed_front}
 use Rattle.analyser.specs.Totals.{totals_checks, GivesTotals}
@@ -34,7 +34,7 @@ range : (s set : List ℕ) (out : List ℤ) → NoneOf (totals_checks s set out)
 unfolding totals_checks
 range s set out none = (plane s (append_none (sheet_checks s) (total_checks (nodes_of s) set out) none).0).sound.range
 
-module _ (s set : List ℕ) (out out' : List ℤ) (t : ℤ) (h : GivesTotals s set out out' (Total t)) where
+module _ (s set : List ℕ) (out out' : List ℤ) (t : ℤ) (h : GivesTotals s set out out' (Ok t)) where
   abbrev 𝓜 : Map
   𝓜 = sheet_map s
 
@@ -70,7 +70,7 @@ module _ (s set : List ℕ) (out out' : List ℤ) (t : ℤ) (h : GivesTotals s s
   )
 
 past_last_node : (s set other : List ℕ) (out out' out'' : List ℤ) (t u : ℤ) → ((v : ℕ) → v < nodes_of s → member set v ≡ member other v)
-    → GivesTotals s set out out' (Total t) → GivesTotals s other out out'' (Total u) → (t ≡ u) × (out' ≡ out'')
+    → GivesTotals s set out out' (Ok t) → GivesTotals s other out out'' (Ok u) → (t ≡ u) × (out' ≡ out'')
 past_last_node s set other out out' out'' t u same h g =
     let c = capacity_of s in
     let n = nodes_of s in (
@@ -83,10 +83,10 @@ past_last_node s set other out out' out'' t u same h g =
           ∙ sym g.1,
     )
 
-totals_given : (s set : List ℕ) (out out' : List ℤ) (answer : TotalsAnswer)
-    → NoneOf (totals_checks s set out) → GivesTotals s set out out' answer → answer ≡ Total (cut (sheet_map s) (capacity_of s) (member set))
-totals_given s set out out' (Total t) none h = ap Total (totals_cut s set out out' t h)
-totals_given s set out out' (Refused k p) none h = absurd (first_none (totals_checks s set out) k p h.0 none)
+totals_given : (s set : List ℕ) (out out' : List ℤ) (answer : Result ℤ Refusal)
+    → NoneOf (totals_checks s set out) → GivesTotals s set out out' answer → answer ≡ Ok (cut (sheet_map s) (capacity_of s) (member set))
+totals_given s set out out' (Ok t) none h = ap Ok (totals_cut s set out out' t h)
+totals_given s set out out' (Err r) none h = absurd (first_none (totals_checks s set out) r.number r.place h.0 none)
 
 pub totals_by_node : TotalsByNode
 totals_by_node = record {

@@ -7,27 +7,27 @@ use native.Mathlib.Nat.{zero-mul}
 use native.Mathlib.Omega.{arith}
 use lib.ListN.{length, drop}
 use lib.IntN.{ℤ}
+use Rattle.std.specs.Prelude.{Result, Ok, Err}
 use Rattle.refusals.specs.Order.{NoneOf, FirstOf}
-use Rattle.refusals.specs.declared.Verdict.{Verdict}
-use Rattle.refusals.specs.declared.Verdict.TheVariants.{Passed}
-use Rattle.refusals.specs.declared.Verdict.TheVariants as verdict
 use Rattle.refusals.proofs.Order.{append_none, none_append, append_first, first_none, first_one}
 use Rattle.refusals.proofs.Same.{Same, same_refl, same_sym, same_append, none_same, first_same}
+use Rattle.refusals.specs.declared.Refusal.{Refusal}
+use Rattle.refusals.specs.Refused.{refused}
 use Rattle.flows.specs.ProvingSet.{words_for}
 use Rattle.records.specs.Sheet.{nodes_of, edges_of}
 use Rattle.sheets.specs.Open.{sheet_checks}
 use Rattle.questions.specs.Question.{end_checks, value_checks, room_checks}
 use Rattle.questions.specs.Solve.{question_checks}
-use Rattle.questions.specs.declared.SolveAnswer.{SolveAnswer}
-use Rattle.questions.specs.declared.SolveAnswer.TheVariants.{Can, Cannot, Refused}
+use Rattle.questions.specs.declared.Solution.{Solution}
+use Rattle.questions.specs.declared.Solution.TheVariants.{Can, Cannot}
 use Rattle.pages.specs.Stretch.{stretch, SameFrom}
-use Rattle.pages.specs.Page.{list_checks, answer_at, PageAs}
+use Rattle.pages.specs.Page.{list_checks, answer_at}
 use Rattle.pages.specs.declared.Question.{Question}
 use Rattle.pages.specs.declared.Page.{Page}
 use Rattle.pages.proofs.Stretches.{part_length, stretch_room}
 use Rattle.pages.proofs.Listing.{list_accepted}
 use Rattle.analyser.specs.Solve.{solve_checks, Solves}
-use Rattle.analyser.specs.Page.{page_checks, solves_alone, AnswersPage}
+use Rattle.analyser.specs.Page.{page_checks, AnswersPage}
 use Rattle.analyser.specs.Statements.{ByThePage}
 use Rattle.analyser.proofs.Demand3 as demand
 
@@ -48,24 +48,25 @@ module _ (s : List ℕ) (source sink : ℕ) (value : ℤ) (own : List ℤ) (set 
       short f t fr tr (inl l) = omega arith
       short f t fr tr (inr l) = omega arith
 
-refusal_of : (s : List ℕ) (source sink : ℕ) (value : ℤ) (flows flows' : List ℤ) (set set' : List ℕ) (answer : SolveAnswer) (k p : ℕ)
-    → FirstOf (solve_checks s source sink value flows set) k p → Solves s source sink value flows flows' set set' answer → answer ≡ Refused k p
-refusal_of s source sink value flows flows' set set' Can k p first h = absurd (first_none (solve_checks s source sink value flows set) k p first h.0)
-refusal_of s source sink value flows flows' set set' (Cannot n) k p first h = absurd (first_none (solve_checks s source sink value flows set) k p first h.0)
-refusal_of s source sink value flows flows' set set' (Refused j q) k p first h =
-    let e = first_one (solve_checks s source sink value flows set) j q k p h.0 first in
-    ap₂ Refused e.0 e.1
+refusal_of : (s : List ℕ) (source sink : ℕ) (value : ℤ) (flows flows' : List ℤ) (set set' : List ℕ) (answer : Result Solution Refusal) (k p : ℕ)
+    → FirstOf (solve_checks s source sink value flows set) k p → Solves s source sink value flows flows' set set' answer → answer ≡ refused k p
+refusal_of s source sink value flows flows' set set' (Ok Can) k p first h = absurd (first_none (solve_checks s source sink value flows set) k p first h.0)
+refusal_of s source sink value flows flows' set set' (Ok (Cannot n)) k p first h =
+    absurd (first_none (solve_checks s source sink value flows set) k p first h.0)
+refusal_of s source sink value flows flows' set set' (Err r) k p first h =
+    let e = first_one (solve_checks s source sink value flows set) r.number r.place k p h.0 first in
+    ap₂ refused e.0 e.1
 
-module _ (s : List ℕ) (source sink : ℕ) (value : ℤ) (own own' : List ℤ) (set set' : List ℕ) (answer : SolveAnswer)
-    (other other' : List ℤ) (another another' : List ℕ) (answer' : SolveAnswer)
+module _ (s : List ℕ) (source sink : ℕ) (value : ℤ) (own own' : List ℤ) (set set' : List ℕ) (answer : Result Solution Refusal)
+    (other other' : List ℤ) (another another' : List ℕ) (answer' : Result Solution Refusal)
     (same : Same (solve_checks s source sink value own set) (solve_checks s source sink value other another))
     (h : Solves s source sink value own own' set set' answer) (g : Solves s source sink value other other' another another' answer') where
-  refused_too : (k p : ℕ) → answer ≡ Refused k p → answer' ≡ Refused k p
+  refused_too : (k p : ℕ) → answer ≡ refused k p → answer' ≡ refused k p
   refused_too k p e =
       refusal_of s source sink value other other' another another' answer' k p
       (first_same (solve_checks s source sink value own set) _ k p same (subst (Solves s source sink value own own' set set') e h).0) g
 
-  can_too : answer ≡ Can → answer' ≡ Can
+  can_too : answer ≡ Ok Can → answer' ≡ Ok Can
   can_too e =
       let c = subst (Solves s source sink value own own' set set') e h in
       (demand.can_exactly s source sink value other other' another another' (none_same (solve_checks s source sink value own set) _ same c.0) answer' g).1 _
@@ -73,26 +74,21 @@ module _ (s : List ℕ) (source sink : ℕ) (value : ℤ) (own own' : List ℤ) 
 
 -- ── a page ──
 module _ (s : List ℕ) (n : ℕ) (question : ℕ → Question) (flows flows' : List ℤ) (sets sets' : List ℕ) (page : Page)
-    (answers : AnswersPage s n question flows flows' sets sets' page) (passed : page.verdict ≡ Passed) where
+    (answers : AnswersPage s n question flows flows' sets sets' (Ok page)) where
   abbrev e : ℕ
   e = edges_of s
 
   abbrev w : ℕ
   w = words_for (nodes_of s)
 
-  as_passed : PageAs (page_checks s n flows sets) e w n (λ i. solves_alone s (question i)) flows flows' sets sets' Passed page.count (answer_at page)
-  as_passed =
-      subst (λ v. PageAs (page_checks s n flows sets) e w n (λ i. solves_alone s (question i)) flows flows' sets sets' v page.count (answer_at page))
-      passed answers.0
-
   accepted : NoneOf (sheet_checks s) × NoneOf (list_checks (nodes_of s) e n flows sets)
   unfolding page_checks
-  accepted = append_none (sheet_checks s) _ as_passed.0
+  accepted = append_none (sheet_checks s) _ answers.0
 
   module _ (i : ℕ) (l : i < n) where
     line : Solves s (question i).source (question i).sink (question i).value (stretch e i flows) (stretch e i flows') (stretch w i sets) (stretch w i sets')
         (answer_at page i)
-    line = as_passed.2 i l
+    line = answers.2 i l
 
     flows_long : length (stretch e i flows) ≡ e
     flows_long =
@@ -115,7 +111,7 @@ module _ (s : List ℕ) (n : ℕ) (question : ℕ → Question) (flows flows' : 
     numbers k p (inr (_, inr (_, inr (_, inl (inr h, _, _))))) = absurd (omega (arith, sets_long))
     numbers k p (inr (_, inr (_, inr (_, inr (_, h))))) = absurd h
 
-    line_refused : (k p : ℕ) → answer_at page i ≡ Refused k p
+    line_refused : (k p : ℕ) → answer_at page i ≡ refused k p
         → ((k ≡ 13) ⊎ ((k ≡ 14) ⊎ (k ≡ 15))) × (stretch e i flows' ≡ stretch e i flows) × (stretch w i sets' ≡ stretch w i sets)
     unfolding solve_checks
     line_refused k p eq =
@@ -130,7 +126,7 @@ module _ (s : List ℕ) (n : ℕ) (question : ℕ → Question) (flows flows' : 
         past (inl h) = absurd (first_none (sheet_checks s) k p h accepted.0)
         past (inr h) = numbers k p h.1
 
-    module _ (own own' : List ℤ) (set set' : List ℕ) (answer : SolveAnswer) (Own-room : e ≤ length own) (set_room : w ≤ length set)
+    module _ (own own' : List ℤ) (set set' : List ℕ) (answer : Result Solution Refusal) (Own-room : e ≤ length own) (set_room : w ≤ length set)
         (solved : Solves s (question i).source (question i).sink (question i).value own own' set set' answer) where
       same : Same (solve_checks s (question i).source (question i).sink (question i).value (stretch e i flows) (stretch w i sets))
           (solve_checks s (question i).source (question i).sink (question i).value own set)
@@ -142,13 +138,13 @@ module _ (s : List ℕ) (n : ℕ) (question : ℕ → Question) (flows flows' : 
           (solve_checks s (question i).source (question i).sink (question i).value (stretch e i flows) (stretch w i sets))
       back = same_sym (solve_checks s (question i).source (question i).sink (question i).value (stretch e i flows) (stretch w i sets)) _ same
 
-      same_can : (answer_at page i ≡ Can → answer ≡ Can) × (answer ≡ Can → answer_at page i ≡ Can)
+      same_can : (answer_at page i ≡ Ok Can → answer ≡ Ok Can) × (answer ≡ Ok Can → answer_at page i ≡ Ok Can)
       same_can = (
         can_too s (question i).source (question i).sink (question i).value _ _ _ _ (answer_at page i) own own' set set' answer same line solved,
         can_too s (question i).source (question i).sink (question i).value own own' set set' answer _ _ _ _ (answer_at page i) back solved line,
       )
 
-      same_refused : (k p : ℕ) → (answer_at page i ≡ Refused k p → answer ≡ Refused k p) × (answer ≡ Refused k p → answer_at page i ≡ Refused k p)
+      same_refused : (k p : ℕ) → (answer_at page i ≡ refused k p → answer ≡ refused k p) × (answer ≡ refused k p → answer_at page i ≡ refused k p)
       same_refused k p = (
         refused_too s (question i).source (question i).sink (question i).value _ _ _ _ (answer_at page i) own own' set set' answer same line solved k p,
         refused_too s (question i).source (question i).sink (question i).value own own' set set' answer _ _ _ _ (answer_at page i) back solved line k p,
@@ -167,21 +163,17 @@ module _ (s : List ℕ) (question : ℕ → Question) (flows flows' : List ℤ) 
   all_same : {A : Type 0} (size : ℕ) (l l' : List A) → SameFrom (0 * size) l l' → l' ≡ l
   all_same size l l' h = subst (λ k. drop k l' ≡ drop k l) (zero-mul size) h.1
 
-  empty_as : (v : Verdict) (count : ℕ) (answers : ℕ → SolveAnswer)
-      → PageAs (page_checks s 0 flows sets) (edges_of s) (words_for (nodes_of s)) 0 (λ i. solves_alone s (question i)) flows flows' sets sets' v count answers
-      → (v ≡ Passed) × (count ≡ 0) × (flows' ≡ flows) × (sets' ≡ sets)
-  empty_as verdict.Passed count answers h = (refl, h.1, all_same (edges_of s) flows flows' h.3, all_same (words_for (nodes_of s)) sets sets' h.4)
-  empty_as (verdict.Refused k p) count answers h = absurd (first_none (page_checks s 0 flows sets) k p h.0 empty_passes)
+  empty_as : (answer : Result Page Refusal) → AnswersPage s 0 question flows flows' sets sets' answer
+      → ((page : Page) × (answer ≡ Ok page) × (page.count ≡ 0)) × (flows' ≡ flows) × (sets' ≡ sets)
+  empty_as (Ok page) h = ((page, refl, h.1), all_same (edges_of s) flows flows' h.3, all_same (words_for (nodes_of s)) sets sets' h.4)
+  empty_as (Err r) h = absurd (first_none (page_checks s 0 flows sets) r.number r.place h.0 empty_passes)
 
 -- ── all ──
 pub by_the_page : ByThePage
 by_the_page = record {
-  line_solves = λ s n question flows flows' sets sets' page h passed i l. line s n question flows flows' sets sets' page h passed i l;
-  line_refused = λ s n question flows flows' sets sets' page h passed i l k p e. line_refused s n question flows flows' sets sets' page h passed i l k p e;
-  same_can = λ s n question flows flows' sets sets' page h passed i l own own' set set' answer Own-room set_room solved.
-      same_can s n question flows flows' sets sets' page h passed i l own own' set set' answer Own-room set_room solved;
-  same_refused = λ s n question flows flows' sets sets' page h passed i l own own' set set' answer Own-room set_room solved k p.
-      same_refused s n question flows flows' sets sets' page h passed i l own own' set set' answer Own-room set_room solved k p;
-  empty_none = λ s question flows flows' sets sets' page sheet h.
-      empty_as s question flows flows' sets sets' sheet page.verdict page.count (answer_at page) h.0;
+  line_solves = λ s n question flows flows' sets sets' page h i l. h.2 i l;
+  line_refused = line_refused;
+  same_can = same_can;
+  same_refused = same_refused;
+  empty_none = λ s question flows flows' sets sets' answer sheet h. empty_as s question flows flows' sets sets' sheet answer h;
 }

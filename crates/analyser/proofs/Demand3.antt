@@ -9,9 +9,11 @@ use mathlib.Core.List.{List}
 use Prim.Native.Nat.{ℕ, ◌<◌}
 use lib.IntN.{ℤ, pos, ◌+ℤ◌}
 use lib.Signed.{◌≤ℤ◌}
+use Rattle.std.specs.Prelude.{Option, Some, None, Result, Ok, Err}
 use Rattle.integers.specs.inner.Limited.{Limited}
 use Rattle.refusals.specs.Order.{NoneOf}
 use Rattle.refusals.proofs.Order.{first_none}
+use Rattle.refusals.specs.declared.Refusal.{Refusal}
 use Rattle.flows.specs.Highest.{Highest}
 use Rattle.flows.specs.ProvingSet.{Proves, member, size}
 use Rattle.flows.proofs.Agreement.{highest_agrees}
@@ -20,12 +22,9 @@ use Rattle.records.specs.Sheet.{nodes_of, edges_of, capacity_of, outer_of, sheet
 use Rattle.arrays.specs.At.{atℤ}
 use Rattle.questions.specs.Question.{SetWritten}
 use Rattle.analyser.specs.Solve.{solve_checks, Solves}
-use Rattle.questions.specs.declared.SolveAnswer.{SolveAnswer}
-use Rattle.questions.specs.declared.SolveAnswer.TheVariants.{Can, Cannot, Refused}
+use Rattle.questions.specs.declared.Solution.{Solution}
+use Rattle.questions.specs.declared.Solution.TheVariants.{Can, Cannot}
 use Rattle.analyser.specs.Largest.{largest_checks, FindsLargest}
-use Rattle.questions.specs.declared.LargestAnswer.{LargestAnswer}
-use Rattle.questions.specs.declared.LargestAnswer.TheVariants.{Value, None}
-use Rattle.questions.specs.declared.LargestAnswer.TheVariants as largest
 use Rattle.questions.proofs.Asked.{ends_in, ends_differ}
 use Rattle.analyser.specs.Statements.{Delivers}
 use Rattle.analyser.proofs.SheetPlane.{plane, capacity_small}
@@ -45,53 +44,54 @@ set_excludes s source sink value flows set h words p x carries =
 module _ (s : List ℕ) (source sink : ℕ) (value : ℤ) (flows flows' : List ℤ) (set set' : List ℕ)
     (asked : NoneOf (solve_checks s source sink value flows set)) where
   -- ── an accepted question is answered ──
-  pub never_refused : (k p : ℕ) → Solves s source sink value flows flows' set set' (Refused k p) → ⊥
-  never_refused k p h = first_none (solve_checks s source sink value flows set) k p h.0 asked
+  pub never_refused : (r : Refusal) → Solves s source sink value flows flows' set set' (Err r) → ⊥
+  never_refused r h = first_none (solve_checks s source sink value flows set) r.number r.place h.0 asked
 
   -- ── "can": the settings given carry the delivery; they are the highest answer, and there is one ──
-  pub can_highest : Solves s source sink value flows flows' set set' Can → Highest (sheet_map s) (outer_of s) (capacity_of s) source sink value (atℤ flows')
+  pub can_highest : Solves s source sink value flows flows' set set' (Ok Can)
+      → Highest (sheet_map s) (outer_of s) (capacity_of s) source sink value (atℤ flows')
   can_highest h =
       let x = h.1.0 in
       highest_agrees (sheet_map s) x (atℤ flows') (λ e l. sym (filled_front (pos 0) (edges_of s) x flows flows' h.1.2 e l)) h.1.1
 
-  pub can_carries : Solves s source sink value flows flows' set set' Can → Delivers s source sink value (atℤ flows')
+  pub can_carries : Solves s source sink value flows flows' set set' (Ok Can) → Delivers s source sink value (atℤ flows')
   can_carries h = (can_highest h).carries
 
-  pub can_only : Solves s source sink value flows flows' set set' Can → (y : ℕ → ℤ)
+  pub can_only : Solves s source sink value flows flows' set set' (Ok Can) → (y : ℕ → ℤ)
       → Highest (sheet_map s) (outer_of s) (capacity_of s) source sink value y → (e : ℕ) → e < edges_of s → atℤ flows' e ≡ y e
   can_only h y highest =
       let a = accepted s source sink value flows set asked in
       one_highest s a.sheet source sink a.ends_two value (atℤ flows') y (can_highest h) highest
 
   -- ── "cannot": the set given proves it, its size is the number of ones, and nothing carries the delivery ──
-  pub cannot_proves : (n : ℕ) → Solves s source sink value flows flows' set set' (Cannot n)
+  pub cannot_proves : (n : ℕ) → Solves s source sink value flows flows' set set' (Ok (Cannot n))
       → (words : List ℕ) × SetWritten (nodes_of s) words set set' × Proves (sheet_map s) (capacity_of s) source sink value (member words) × (n ≡ size words)
   cannot_proves n h = h.1
 
-  pub cannot_none : (n : ℕ) → Solves s source sink value flows flows' set set' (Cannot n) → (x : ℕ → ℤ) → Delivers s source sink value x → ⊥
+  pub cannot_none : (n : ℕ) → Solves s source sink value flows flows' set set' (Ok (Cannot n)) → (x : ℕ → ℤ) → Delivers s source sink value x → ⊥
   cannot_none n h = set_excludes s source sink value flows set asked h.1.0 h.1.2
 
   -- ── exactly when ──
-  module _ (answer : SolveAnswer) (solved : Solves s source sink value flows flows' set set' answer) where
+  module _ (answer : Result Solution Refusal) (solved : Solves s source sink value flows flows' set set' answer) where
     -- "can" exactly when some settings carry the delivery
-    pub can_exactly : (answer ≡ Can → (x : ℕ → ℤ) × Delivers s source sink value x) × ((x : ℕ → ℤ) → Delivers s source sink value x → answer ≡ Can)
+    pub can_exactly : (answer ≡ Ok Can → (x : ℕ → ℤ) × Delivers s source sink value x) × ((x : ℕ → ℤ) → Delivers s source sink value x → answer ≡ Ok Can)
     can_exactly = ((λ e. (atℤ flows', can_carries (subst (Solves s source sink value flows flows' set set') e solved))), (λ x d. by answer solved x d))
       where
-        by : (a : SolveAnswer) → Solves s source sink value flows flows' set set' a → (x : ℕ → ℤ) → Delivers s source sink value x → a ≡ Can
-        by Can h x d = refl
-        by (Cannot n) h x d = absurd (cannot_none n h x d)
-        by (Refused k p) h x d = absurd (never_refused k p h)
+        by : (a : Result Solution Refusal) → Solves s source sink value flows flows' set set' a → (x : ℕ → ℤ) → Delivers s source sink value x → a ≡ Ok Can
+        by (Ok Can) h x d = refl
+        by (Ok (Cannot n)) h x d = absurd (cannot_none n h x d)
+        by (Err r) h x d = absurd (never_refused r h)
 
     -- "cannot" exactly when no settings do
-    pub cannot_exactly : ((n : ℕ) → answer ≡ Cannot n → (x : ℕ → ℤ) → Delivers s source sink value x → ⊥)
-        × (((x : ℕ → ℤ) → Delivers s source sink value x → ⊥) → (n : ℕ) × (answer ≡ Cannot n))
+    pub cannot_exactly : ((n : ℕ) → answer ≡ Ok (Cannot n) → (x : ℕ → ℤ) → Delivers s source sink value x → ⊥)
+        × (((x : ℕ → ℤ) → Delivers s source sink value x → ⊥) → (n : ℕ) × (answer ≡ Ok (Cannot n)))
     cannot_exactly = ((λ n e. cannot_none n (subst (Solves s source sink value flows flows' set set') e solved)), (λ none. by answer solved none))
       where
-        by : (a : SolveAnswer) → Solves s source sink value flows flows' set set' a
-            → ((x : ℕ → ℤ) → Delivers s source sink value x → ⊥) → (n : ℕ) × (a ≡ Cannot n)
-        by Can h none = absurd (none (atℤ flows') (can_carries h))
-        by (Cannot n) h none = (n, refl)
-        by (Refused k p) h none = absurd (never_refused k p h)
+        by : (a : Result Solution Refusal) → Solves s source sink value flows flows' set set' a
+            → ((x : ℕ → ℤ) → Delivers s source sink value x → ⊥) → (n : ℕ) × (a ≡ Ok (Cannot n))
+        by (Ok Can) h none = absurd (none (atℤ flows') (can_carries h))
+        by (Ok (Cannot n)) h none = (n, refl)
+        by (Err r) h none = absurd (never_refused r h)
 
 -- ── Largest, by what holds on any plane drawing ──
 module _ (s : List ℕ) (source sink : ℕ) (flows flows' : List ℤ) (set set' : List ℕ) (asked : NoneOf (largest_checks s source sink flows set)) where
@@ -104,11 +104,11 @@ module _ (s : List ℕ) (source sink : ℕ) (flows flows' : List ℤ) (set set' 
   apart : source ≢ sink
   apart = ends_differ (nodes_of s) source sink known.ends_two
 
-  pub largest_answered : (k p : ℕ) → FindsLargest s source sink flows flows' set set' (largest.Refused k p) → ⊥
-  largest_answered k p h = first_none (largest_checks s source sink flows set) k p h.0 asked
+  pub largest_answered : (r : Refusal) → FindsLargest s source sink flows flows' set set' (Err r) → ⊥
+  largest_answered r h = first_none (largest_checks s source sink flows set) r.number r.place h.0 asked
 
   -- ── the largest delivery is carried by the settings given, the highest answer, of which there is one ──
-  module _ (v : ℤ) (h : FindsLargest s source sink flows flows' set set' (Value v)) where
+  module _ (v : ℤ) (h : FindsLargest s source sink flows flows' set set' (Ok (Some v))) where
     pub largest_highest : Highest (sheet_map s) (outer_of s) (capacity_of s) source sink v (atℤ flows')
     largest_highest =
         on.largest_highest (sheet_drawing s) (plane s known.sheet) source sink known.ends_two
@@ -138,7 +138,7 @@ module _ (s : List ℕ) (source sink : ℕ) (flows flows' : List ℤ) (set set' 
         (sheet_counts s known.sheet).3 (λ d l. (capacity_small s known.sheet d l).high) v (atℤ flows') largest_carries
 
   -- ── "none": the set given proves each delivery impossible, of every whole number ──
-  module _ (h : FindsLargest s source sink flows flows' set set' None) where
+  module _ (h : FindsLargest s source sink flows flows' set set' (Ok None)) where
     pub none_proves : (value : ℤ) → Proves (sheet_map s) (capacity_of s) source sink value (member h.2.0)
     none_proves =
         on.none_proves (sheet_drawing s) (plane s known.sheet) source sink known.ends_two (largest_checks s source sink flows set) flows flows' set set' h
@@ -149,16 +149,16 @@ module _ (s : List ℕ) (source sink : ℕ) (flows flows' : List ℤ) (set set' 
         (largest_checks s source sink flows set) flows flows' set set' h
 
   -- ── exactly when ──
-  module _ (answer : LargestAnswer) (found : FindsLargest s source sink flows flows' set set' answer) where
-    pub none_exactly : (answer ≡ None → (value : ℤ) (x : ℕ → ℤ) → Delivers s source sink value x → ⊥)
-        × (((value : ℤ) (x : ℕ → ℤ) → Delivers s source sink value x → ⊥) → answer ≡ None)
+  module _ (answer : Result (Option ℤ) Refusal) (found : FindsLargest s source sink flows flows' set set' answer) where
+    pub none_exactly : (answer ≡ Ok None → (value : ℤ) (x : ℕ → ℤ) → Delivers s source sink value x → ⊥)
+        × (((value : ℤ) (x : ℕ → ℤ) → Delivers s source sink value x → ⊥) → answer ≡ Ok None)
     none_exactly =
         on.none_exactly (sheet_drawing s) (plane s known.sheet) source sink known.ends_two (largest_checks s source sink flows set) flows flows' set set'
         asked answer found
 
     -- a value is given exactly when something can be delivered
-    pub value_exactly : ((v : ℤ) → answer ≡ Value v → Delivers s source sink v (atℤ flows'))
-        × ((value : ℤ) (x : ℕ → ℤ) → Delivers s source sink value x → (v : ℤ) × (answer ≡ Value v))
+    pub value_exactly : ((v : ℤ) → answer ≡ Ok (Some v) → Delivers s source sink v (atℤ flows'))
+        × ((value : ℤ) (x : ℕ → ℤ) → Delivers s source sink value x → (v : ℤ) × (answer ≡ Ok (Some v)))
     value_exactly =
         on.value_exactly (sheet_drawing s) (plane s known.sheet) source sink known.ends_two (largest_checks s source sink flows set) flows flows' set set'
         asked answer found

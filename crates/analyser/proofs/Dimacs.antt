@@ -10,9 +10,11 @@ use lib.ListN.{take, drop}
 use lib.Seq.{take_at}
 use lib.IntN.{ℤ, pos, negsuc}
 use lib.Signed.{◌≤ℤ◌}
+use Rattle.std.specs.Prelude.{Option, Some, None, Result, Ok, Err}
 use Rattle.integers.proofs.Omega.{parts, from_at_most}
 use Rattle.refusals.specs.Order.{NoneOf}
 use Rattle.refusals.proofs.Order.{append_none}
+use Rattle.refusals.specs.declared.Refusal.{Refusal}
 use Rattle.maps.specs.Map.{darts}
 use Rattle.flows.specs.ProvingSet.{member}
 use Rattle.arrays.specs.At.{atℤ}
@@ -20,15 +22,12 @@ use Rattle.records.specs.Sheet.{nodes_of, capacity_of, sheet_map, sheet_drawing}
 use Rattle.sheets.specs.Open.{sheet_checks}
 use Rattle.sheets.proofs.Accepted.{sheet_counts}
 use Rattle.questions.specs.Question.{end_checks}
-use Rattle.questions.specs.declared.LargestAnswer.{LargestAnswer}
-use Rattle.questions.specs.declared.LargestAnswer.TheVariants as largest
 use Rattle.questions.proofs.Asked.{ends_in, ends_differ}
 use Rattle.dimacs.specs.Problem.{WellPosed, Greatest, NoneGreaterInParts}
 use Rattle.dimacs.specs.Reading.{problem_of}
 use Rattle.dimacs.specs.Text.{natural, dimacs_text}
 use Rattle.dimacs.specs.Drawn.{drawn_problem}
 use Rattle.dimacs.specs.Write.{BelowZero, text_of}
-use Rattle.dimacs.specs.declared.DimacsAnswer.TheVariants.{Bytes}
 use Rattle.dimacs.proofs.Settling.{NotBelowZero}
 use Rattle.dimacs.proofs.Largest.{zero_carries}
 use Rattle.dimacs.proofs.ReadBack as text
@@ -47,7 +46,7 @@ unfolding natural
 natural_small (pos n) h = omega (arith, from_at_most h (search parts))
 natural_small (negsuc n) h = omega arith
 
-module _ (s : List ℕ) (source sink : ℕ) (out out' : List ℕ) (n : ℕ) (w : WritesDimacs s source sink out out' (Bytes n)) where
+module _ (s : List ℕ) (source sink : ℕ) (out out' : List ℕ) (n : ℕ) (w : WritesDimacs s source sink out out' (Ok n)) where
   -- ── what a written sheet is known of ──
   apart : NoneOf (sheet_checks s) × (NoneOf (end_checks (nodes_of s) source sink) × (BelowZero (darts (sheet_map s)) (capacity_of s) → ⊥))
   unfolding dimacs_checks
@@ -85,10 +84,10 @@ module _ (s : List ℕ) (source sink : ℕ) (out out' : List ℕ) (n : ℕ) (w :
 
   -- ── beside Largest ──
   module _ (flows flows' : List ℤ) (set set' : List ℕ) where
-    abbrev Found : LargestAnswer → Type 0
+    abbrev Found : Result (Option ℤ) Refusal → Type 0
     Found = FindsLargest s source sink flows flows' set set'
 
-    pub value_greatest : (v : ℤ) → Found (largest.Value v) → Greatest (problem_of (take n out')) v
+    pub value_greatest : (v : ℤ) → Found (Ok (Some v)) → Greatest (problem_of (take n out')) v
     value_greatest v h =
         subst (λ t. Greatest (problem_of t) v) (sym bytes)
         ((greatest.greatest_is_largest (sheet_map s) (capacity_of s) source sink good v).0 (
@@ -96,26 +95,26 @@ module _ (s : List ℕ) (source sink : ℕ) (out out' : List ℕ) (n : ℕ) (w :
           demand.nothing_greater s source sink flows flows' set set' h.0 v h,
         ))
 
-    pub none_greater_in_parts : (v : ℤ) → Found (largest.Value v) → (k : ℕ) → NoneGreaterInParts k (problem_of (take n out')) v
+    pub none_greater_in_parts : (v : ℤ) → Found (Ok (Some v)) → (k : ℕ) → NoneGreaterInParts k (problem_of (take n out')) v
     none_greater_in_parts v h k =
         subst (λ t. NoneGreaterInParts k (problem_of t) v) (sym bytes)
         (greatest.none_greater_in_parts (sheet_map s) (capacity_of s) source sink good (plane s apart.0).sound.range ends.0 ends.1 differ
         v h.1.0 h.1.1.carries (member h.2.0) h.2.2 k)
 
     module _ (asked : NoneOf (largest_checks s source sink flows set)) where
-      pub never_none : (answer : LargestAnswer) → Found answer → (v : ℤ) × (answer ≡ largest.Value v)
-      never_none (largest.Value v) h = (v, refl)
-      never_none largest.None h =
+      pub never_none : (answer : Result (Option ℤ) Refusal) → Found answer → (v : ℤ) × (answer ≡ Ok (Some v))
+      never_none (Ok (Some v)) h = (v, refl)
+      never_none (Ok None) h =
           absurd (demand.none_delivered s source sink flows flows' set set' asked h (pos 0) (λ e. pos 0)
           (zero_carries (sheet_map s) (capacity_of s) source sink good))
-      never_none (largest.Refused k p) h = absurd (demand.largest_answered s source sink flows flows' set set' asked k p h)
+      never_none (Err r) h = absurd (demand.largest_answered s source sink flows flows' set set' asked r h)
 
-      pub greatest_is_largest : (answer : LargestAnswer) → Found answer → (v : ℤ)
-          → (Greatest (problem_of (take n out')) v → answer ≡ largest.Value v) × (answer ≡ largest.Value v → Greatest (problem_of (take n out')) v)
+      pub greatest_is_largest : (answer : Result (Option ℤ) Refusal) → Found answer → (v : ℤ)
+          → (Greatest (problem_of (take n out')) v → answer ≡ Ok (Some v)) × (answer ≡ Ok (Some v) → Greatest (problem_of (take n out')) v)
       greatest_is_largest answer h v = (
         (λ g.
             let a = never_none answer h in
-            a.1 ∙ ap largest.Value (greatest.greatest_unique (problem_of (take n out')) a.0 v (value_greatest a.0 (subst Found a.1 h)) g)),
+            a.1 ∙ ap (λ v. Ok (Some v)) (greatest.greatest_unique (problem_of (take n out')) a.0 v (value_greatest a.0 (subst Found a.1 h)) g)),
         (λ e. value_greatest v (subst Found e h)),
       )
 

@@ -128,10 +128,10 @@ districts = record {
   apart_largest = λ s source sink v flows flows' set set' far h.
       let a = sought s source sink flows set h.0 in
       zero s a.sheet source sink a.ends_two far v (atℤ flows') (possible_and_impossible.largest_carries s source sink v flows flows' set set' h);
-  apart_range = λ s source sink low low' below below' high high' above above' v w far h.
+  apart_range = λ s source sink low low' below below' high high' above above' r far h.
       let a = range_accepted s source sink low low' below below' high high' above above' h.0 in
       let only = zero s a.0 source sink a.1 far in (
-        only v (atℤ low') (least_and_largest.least_carries s source sink low low' below below' high high' above above' v w h),
-        only w (atℤ high') (least_and_largest.largest_carries s source sink low low' below below' high high' above above' v w h),
+        only r.least (atℤ low') (least_and_largest.least_carries s source sink low low' below below' high high' above above' r h),
+        only r.largest (atℤ high') (least_and_largest.largest_carries s source sink low low' below below' high high' above above' r h),
       );
 }

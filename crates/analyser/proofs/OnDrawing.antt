@@ -8,9 +8,11 @@ use Prim.Native.Nat.{ℕ, ◌<◌}
 use native.Mathlib.Omega.{arith}
 use lib.IntN.{ℤ, pos, ◌+ℤ◌}
 use lib.Signed.{◌≤ℤ◌}
+use Rattle.std.specs.Prelude.{Option, Some, None, Result, Ok, Err}
 use Rattle.integers.proofs.Omega.{atoms₁, atoms₃, parts, at_most, from_at_most, from_less}
 use Rattle.refusals.specs.Order.{Check, NoneOf}
 use Rattle.refusals.proofs.Order.{first_none}
+use Rattle.refusals.specs.declared.Refusal.{Refusal}
 use Rattle.maps.specs.Drawing.{Drawing}
 use Rattle.maps.specs.Cut.{cut}
 use Rattle.flows.specs.Settings.{Carries}
@@ -25,8 +27,6 @@ use Rattle.arrays.specs.At.{atℤ}
 use Rattle.arrays.proofs.FillLoops.{filled_front}
 use Rattle.questions.specs.Question.{end_checks}
 use Rattle.questions.specs.Largest.{LargestFound}
-use Rattle.questions.specs.declared.LargestAnswer.{LargestAnswer}
-use Rattle.questions.specs.declared.LargestAnswer.TheVariants.{Value, None, Refused}
 use Rattle.questions.proofs.Asked.{ends_in, ends_differ}
 
 module _ (𝓓 : Drawing) (plane : Plane 𝓓.map) (source sink : ℕ) (two : NoneOf (end_checks 𝓓.map.nodes source sink)) where
@@ -46,11 +46,11 @@ module _ (𝓓 : Drawing) (plane : Plane 𝓓.map) (source sink : ℕ) (two : No
   excludes value S = proves_excludes plane.sound.range ends.0 ends.1 apart 𝓓.capacity value S
 
   module _ (checks : List Check) (flows flows' : List ℤ) (set set' : List ℕ) where
-    abbrev Answers : LargestAnswer → Type 0
+    abbrev Answers : Result (Option ℤ) Refusal → Type 0
     Answers = LargestFound 𝓓 checks source sink flows flows' set set'
 
     -- ── a value: it is carried by the settings given, the highest answer ──
-    module _ (v : ℤ) (h : LargestFound 𝓓 checks source sink flows flows' set set' (Value v)) where
+    module _ (v : ℤ) (h : LargestFound 𝓓 checks source sink flows flows' set set' (Ok (Some v))) where
       pub largest_highest : Highest 𝓓.map 𝓓.outer 𝓓.capacity source sink v (atℤ flows')
       largest_highest =
           let x = h.1.0 in
@@ -85,7 +85,7 @@ module _ (𝓓 : Drawing) (plane : Plane 𝓓.map) (source sink : ℕ) (two : No
               (beside_proves_all 𝓓.map 𝓓.capacity source sink (member h.2.0) side (v +ℤ pos 1) proves v) (atℤ flows') largest_carries)
 
     -- ── none: the set given proves each value impossible, of every whole number ──
-    module _ (h : LargestFound 𝓓 checks source sink flows flows' set set' None) where
+    module _ (h : LargestFound 𝓓 checks source sink flows flows' set set' (Ok None)) where
       pub none_proves : (value : ℤ) → Proves 𝓓.map 𝓓.capacity source sink value (member h.2.0)
       none_proves = beside_proves 𝓓.map 𝓓.capacity source sink (member h.2.0) h.2.2.0 h.2.2.1
 
@@ -93,22 +93,22 @@ module _ (𝓓 : Drawing) (plane : Plane 𝓓.map) (source sink : ℕ) (two : No
       none_delivered value = excludes value (member h.2.0) (none_proves value)
 
     -- ── exactly when ──
-    module _ (asked : NoneOf checks) (answer : LargestAnswer) (found : LargestFound 𝓓 checks source sink flows flows' set set' answer) where
-      pub none_exactly : (answer ≡ None → (value : ℤ) (x : ℕ → ℤ) → Carries 𝓓.map 𝓓.capacity source sink value x → ⊥)
-          × (((value : ℤ) (x : ℕ → ℤ) → Carries 𝓓.map 𝓓.capacity source sink value x → ⊥) → answer ≡ None)
+    module _ (asked : NoneOf checks) (answer : Result (Option ℤ) Refusal) (found : LargestFound 𝓓 checks source sink flows flows' set set' answer) where
+      pub none_exactly : (answer ≡ Ok None → (value : ℤ) (x : ℕ → ℤ) → Carries 𝓓.map 𝓓.capacity source sink value x → ⊥)
+          × (((value : ℤ) (x : ℕ → ℤ) → Carries 𝓓.map 𝓓.capacity source sink value x → ⊥) → answer ≡ Ok None)
       none_exactly = ((λ q. none_delivered (subst Answers q found)), (λ nothing. by answer found nothing))
         where
-          by : (r : LargestAnswer) → Answers r → ((value : ℤ) (x : ℕ → ℤ) → Carried value x → ⊥) → r ≡ None
-          by (Value v) h nothing = absurd (nothing v (atℤ flows') (largest_carries v h))
-          by None h nothing = refl
-          by (Refused k p) h nothing = absurd (first_none checks k p h.0 asked)
+          by : (r : Result (Option ℤ) Refusal) → Answers r → ((value : ℤ) (x : ℕ → ℤ) → Carried value x → ⊥) → r ≡ Ok None
+          by (Ok (Some v)) h nothing = absurd (nothing v (atℤ flows') (largest_carries v h))
+          by (Ok None) h nothing = refl
+          by (Err r) h nothing = absurd (first_none checks r.number r.place h.0 asked)
 
       -- a value is given exactly when something can be carried
-      pub value_exactly : ((v : ℤ) → answer ≡ Value v → Carries 𝓓.map 𝓓.capacity source sink v (atℤ flows'))
-          × ((value : ℤ) (x : ℕ → ℤ) → Carries 𝓓.map 𝓓.capacity source sink value x → (v : ℤ) × (answer ≡ Value v))
+      pub value_exactly : ((v : ℤ) → answer ≡ Ok (Some v) → Carries 𝓓.map 𝓓.capacity source sink v (atℤ flows'))
+          × ((value : ℤ) (x : ℕ → ℤ) → Carries 𝓓.map 𝓓.capacity source sink value x → (v : ℤ) × (answer ≡ Ok (Some v)))
       value_exactly = ((λ v q. largest_carries v (subst Answers q found)), (λ value x d. by answer found value x d))
         where
-          by : (r : LargestAnswer) → Answers r → (value : ℤ) (x : ℕ → ℤ) → Carried value x → (v : ℤ) × (r ≡ Value v)
-          by (Value v) h value x d = (v, refl)
-          by None h value x d = absurd (none_delivered h value x d)
-          by (Refused k p) h value x d = absurd (first_none checks k p h.0 asked)
+          by : (r : Result (Option ℤ) Refusal) → Answers r → (value : ℤ) (x : ℕ → ℤ) → Carried value x → (v : ℤ) × (r ≡ Ok (Some v))
+          by (Ok (Some v)) h value x d = (v, refl)
+          by (Ok None) h value x d = absurd (none_delivered h value x d)
+          by (Err r) h value x d = absurd (first_none checks r.number r.place h.0 asked)

@@ -1,12 +1,14 @@
 -- An opened sheet, for every operation: the arrays filled from it hold its drawing, so that what an operation on drawings asks is met, and what it answers is
 -- the answer on the sheet, with the sheet checks in front.
-use mathlib.Core.Path.{◌≡◌, sym, subst}
+use mathlib.Core.Path.{◌≡◌, refl, sym, subst}
 use mathlib.Core.List.{List}
 use Prim.Native.Nat.{ℕ, ◌*◌, ◌≤◌, ◌<◌}
 use native.Mathlib.Omega.{arith}
 use lib.IntN.{ℤ}
 use Rattle.integers.specs.inner.Limited.{Limited}
+use Rattle.std.specs.Prelude.{Result, Ok, Err, Option}
 use Rattle.refusals.specs.Order.{NoneOf, FirstOf}
+use Rattle.refusals.specs.declared.Refusal.{Refusal}
 use Rattle.refusals.proofs.Order.{first_left, none_append, first_right}
 use Rattle.maps.specs.Map.{darts}
 use Rattle.maps.specs.Drawing.{Drawing}
@@ -14,6 +16,7 @@ use Rattle.arrays.specs.At.{at, atℤ}
 use Rattle.arrays.specs.Maps.{drawing_of}
 use Rattle.arrays.specs.inner.Sizes.{most_on_sheet}
 use Rattle.arrays.specs.inner.Drawn.{Drawn}
+use Rattle.arrays.specs.declared.Sizes.{Sizes}
 use Rattle.grouping.specs.inner.Walked.{Walked}
 use Rattle.grouping.specs.inner.OpenDrawing.{OpenDrawing}
 use Rattle.records.specs.Sheet.{nodes_of, edges_of, capacity_of, sheet_map, sheet_drawing}
@@ -27,19 +30,15 @@ use Rattle.questions.specs.inner.Named.{SetNamed}
 use Rattle.questions.specs.inner.Lent.{OpenSheet, OpenPaper}
 use Rattle.questions.specs.Largest.{search_checks, LargestFound}
 use Rattle.questions.specs.Mark.{paper_checks, Marked}
-use Rattle.questions.specs.declared.SolveAnswer.{SolveAnswer}
-use Rattle.questions.specs.declared.LargestAnswer.{LargestAnswer}
-use Rattle.questions.specs.declared.MarkAnswer.{MarkAnswer}
+use Rattle.questions.specs.declared.Solution.{Solution}
 use Rattle.questions.proofs.After.{solved_after, largest-after, marked_after}
 use Rattle.ranges.specs.Range.{span_checks, RangeFound}
-use Rattle.ranges.specs.declared.RangeAnswer.{RangeAnswer}
+use Rattle.ranges.specs.declared.Range.{Range}
 use Rattle.ranges.proofs.After.{range_after}
 use Rattle.maps.specs.Check.{Sound}
 use Rattle.totals.specs.Totals.{total_checks, TotalGiven}
-use Rattle.totals.specs.declared.TotalsAnswer.{TotalsAnswer}
 use Rattle.totals.proofs.Giving.{total_after}
 use Rattle.raising.specs.Raise.{limit_checks, RaiseFound}
-use Rattle.raising.specs.declared.RaiseAnswer.{RaiseAnswer}
 use Rattle.raising.proofs.After.{raise_after}
 use Rattle.capture.specs.Capture.{capture_checks, FoundAfter}
 use Rattle.capture.proofs.Finding.{after_after}
@@ -48,20 +47,17 @@ use Rattle.pages.specs.Page.{list_checks, Paged}
 use Rattle.pages.specs.inner.Listed.{solved_alone}
 use Rattle.pages.specs.declared.Question.{Question}
 use Rattle.pages.specs.declared.Page.{Page}
-use Rattle.pages.proofs.After.{page_lines, lines_of}
 use Rattle.levels.specs.LevelsOf.{balanced_checks, LevelsGiven}
 use Rattle.levels.specs.SettingsOf.{leveled_checks, SettingsGiven}
-use Rattle.levels.specs.declared.LevelAnswer.{LevelAnswer}
 use Rattle.levels.proofs.After.{levels_after, settings_after}
 use Rattle.dimacs.specs.Write.{text_checks, TextWritten}
-use Rattle.dimacs.specs.declared.DimacsAnswer.{DimacsAnswer}
 use Rattle.dimacs.proofs.Writing.{text_after}
 use Rattle.analyser.specs.Solve.{solve_checks, Solves}
 use Rattle.analyser.specs.Largest.{largest_checks, FindsLargest}
 use Rattle.analyser.specs.Range.{range_checks, FindsRange}
 use Rattle.analyser.specs.Raise.{raise_checks, RaisesLimit}
 use Rattle.analyser.specs.After.{after_checks, FindsAfter}
-use Rattle.analyser.specs.Page.{page_checks, solves_alone, AnswersPage}
+use Rattle.analyser.specs.Page.{page_checks, AnswersPage}
 use Rattle.analyser.specs.inner.Named.{PageNamed}
 use Rattle.analyser.specs.Mark.{mark_checks, Marks}
 use Rattle.analyser.specs.LevelsOf.{levels_checks, GivesLevels}
@@ -70,86 +66,92 @@ use Rattle.analyser.specs.Totals.{totals_checks, GivesTotals}
 use Rattle.analyser.specs.Dimacs.{dimacs_checks, WritesDimacs}
 use Rattle.analyser.proofs.SheetPlane.{sheet_drawn, capacity_small}
 
--- ── a refused sheet ──
-module _ (s : List ℕ) (k p : ℕ) (first : FirstOf (sheet_checks s) k p) where
-  pub solve_refused : (source sink : ℕ) (value : ℤ) (flows : List ℤ) (set : List ℕ) → FirstOf (solve_checks s source sink value flows set) k p
+-- ── a refused sheet: nothing is written ──
+module _ (s : List ℕ) (r : Refusal) (first : FirstOf (sheet_checks s) r.number r.place) where
+  pub solve_refused : (source sink : ℕ) (value : ℤ) (flows : List ℤ) (set : List ℕ) → Solves s source sink value flows flows set set (Err r)
   unfolding solve_checks
-  solve_refused source sink value flows set = first_left (sheet_checks s) _ k p first
+  solve_refused source sink value flows set = (first_left (sheet_checks s) _ r.number r.place first, refl, refl)
 
-  pub largest_refused : (source sink : ℕ) (flows : List ℤ) (set : List ℕ) → FirstOf (largest_checks s source sink flows set) k p
+  pub largest_refused : (source sink : ℕ) (flows : List ℤ) (set : List ℕ) → FindsLargest s source sink flows flows set set (Err r)
   unfolding largest_checks
-  largest_refused source sink flows set = first_left (sheet_checks s) _ k p first
+  largest_refused source sink flows set = (first_left (sheet_checks s) _ r.number r.place first, refl, refl)
 
   pub range_refused : (source sink : ℕ) (low : List ℤ) (below : List ℕ) (high : List ℤ) (above : List ℕ)
-      → FirstOf (range_checks s source sink low below high above) k p
+      → FindsRange s source sink low low below below high high above above (Err r)
   unfolding range_checks
-  range_refused source sink low below high above = first_left (sheet_checks s) _ k p first
+  range_refused source sink low below high above = (first_left (sheet_checks s) _ r.number r.place first, refl, refl, refl, refl)
 
-  pub raise_refused : (source sink : ℕ) (value : ℤ) (edge : ℕ) (flows : List ℤ) (set : List ℕ) → FirstOf (raise_checks s source sink value edge flows set) k p
+  pub raise_refused : (source sink : ℕ) (value : ℤ) (edge : ℕ) (flows : List ℤ) (set : List ℕ)
+      → RaisesLimit s source sink value edge flows flows set set (Err r)
   unfolding raise_checks
-  raise_refused source sink value edge flows set = first_left (sheet_checks s) _ k p first
+  raise_refused source sink value edge flows set = (first_left (sheet_checks s) _ r.number r.place first, refl, refl)
 
-  pub after_refused : (b : List ℕ) (w n source sink : ℕ) (limits flows : List ℤ) (set : List ℕ) → FirstOf (after_checks s b w n source sink limits flows set) k
-      p
+  pub after_refused : (b : List ℕ) (w n source sink : ℕ) (limits flows : List ℤ) (set : List ℕ)
+      → FindsAfter s b w n source sink limits limits flows flows set set (Err r)
   unfolding after_checks
-  after_refused b w n source sink limits flows set = first_left (sheet_checks s) _ k p first
+  after_refused b w n source sink limits flows set = (refl, (first_left (sheet_checks s) _ r.number r.place first, refl, refl))
 
-  pub page_refused : (n : ℕ) (flows : List ℤ) (sets : List ℕ) → FirstOf (page_checks s n flows sets) k p
+  pub page_refused : (n : ℕ) (question : ℕ → Question) (flows : List ℤ) (sets : List ℕ) → AnswersPage s n question flows flows sets sets (Err r)
   unfolding page_checks
-  page_refused n flows sets = first_left (sheet_checks s) _ k p first
+  page_refused n question flows sets = (first_left (sheet_checks s) _ r.number r.place first, refl, refl)
 
-  pub mark_refused : (source sink : ℕ) (flows : List ℤ) → FirstOf (mark_checks s source sink flows) k p
+  pub mark_refused : (source sink : ℕ) (flows : List ℤ) → Marks s source sink flows (Err r)
   unfolding mark_checks
-  mark_refused source sink flows = first_left (sheet_checks s) _ k p first
+  mark_refused source sink flows = first_left (sheet_checks s) _ r.number r.place first
 
-  pub levels_refused : (flows levels : List ℤ) → FirstOf (levels_checks s flows levels) k p
+  pub levels_refused : (flows levels : List ℤ) → GivesLevels s flows levels levels (Err r)
   unfolding levels_checks
-  levels_refused flows levels = first_left (sheet_checks s) _ k p first
+  levels_refused flows levels = (first_left (sheet_checks s) _ r.number r.place first, refl)
 
-  pub settings_refused : (levels flows : List ℤ) → FirstOf (settings_checks s levels flows) k p
+  pub settings_refused : (levels flows : List ℤ) → GivesSettings s levels flows flows (Err r)
   unfolding settings_checks
-  settings_refused levels flows = first_left (sheet_checks s) _ k p first
+  settings_refused levels flows = (first_left (sheet_checks s) _ r.number r.place first, refl)
 
-  pub totals_refused : (set : List ℕ) (out : List ℤ) → FirstOf (totals_checks s set out) k p
+  pub totals_refused : (set : List ℕ) (out : List ℤ) → GivesTotals s set out out (Err r)
   unfolding totals_checks
-  totals_refused set out = first_left (sheet_checks s) _ k p first
+  totals_refused set out = (first_left (sheet_checks s) _ r.number r.place first, refl)
 
-  pub dimacs_refused : (source sink : ℕ) (out : List ℕ) → FirstOf (dimacs_checks s source sink out) k p
+  pub dimacs_refused : (source sink : ℕ) (out : List ℕ) → WritesDimacs s source sink out out (Err r)
   unfolding dimacs_checks
-  dimacs_refused source sink out = first_left (sheet_checks s) _ k p first
+  dimacs_refused source sink out = (first_left (sheet_checks s) _ r.number r.place first, refl)
 
 -- ── an accepted one ──
-module _ (s : List ℕ) (net : Network) (open' : NoneOf (sheet_checks s) × Holds s net) where
+module _ (s : List ℕ) (net : Network) (sizes : Sizes) (open' : NoneOf (sheet_checks s) × Holds s net sizes) where
   abbrev held : Drawing
-  held = drawing_of net.sizes.nodes net.sizes.edges net.sizes.outer net.tails net.rotations net.capacities
+  held = drawing_of sizes.nodes sizes.edges sizes.outer net.tails net.rotations net.capacities
 
-  same : drawing_of net.sizes.nodes net.sizes.edges net.sizes.outer net.tails net.rotations net.capacities ≡ sheet_drawing s
+  same : drawing_of sizes.nodes sizes.edges sizes.outer net.tails net.rotations net.capacities ≡ sheet_drawing s
   same =
       let h = open'.1 in
-      drawings_are s net.sizes.nodes net.sizes.edges net.sizes.outer net.tails net.rotations net.capacities
+      drawings_are s sizes.nodes sizes.edges sizes.outer net.tails net.rotations net.capacities
       h.nodes_are h.edges_are h.outer_is h.tails_are h.rotations_are h.capacities_are
 
-  pub drawn : Drawn held.map (at net.lefts) net.sizes.faces net.sizes.outer (atℤ net.capacities)
+  pub drawn : Drawn held.map (at net.lefts) sizes.faces sizes.outer (atℤ net.capacities)
   drawn =
-      subst (λ 𝓓. Drawn 𝓓.map (at net.lefts) net.sizes.faces 𝓓.outer 𝓓.capacity) (sym same)
-      (sheet_drawn s open'.0 (at net.lefts) net.sizes.faces open'.1.lefts_are open'.1.faces_are)
+      subst (λ 𝓓. Drawn 𝓓.map (at net.lefts) sizes.faces 𝓓.outer 𝓓.capacity) (sym same)
+      (sheet_drawn s open'.0 (at net.lefts) sizes.faces open'.1.lefts_are open'.1.faces_are)
 
-  pub small : (d : ℕ) → d < 2 * net.sizes.edges → Limited most_on_sheet (atℤ net.capacities d)
+  pub small : (d : ℕ) → d < 2 * sizes.edges → Limited most_on_sheet (atℤ net.capacities d)
   small = subst (λ 𝓓. (d : ℕ) → d < darts 𝓓.map → Limited most_on_sheet (𝓓.capacity d)) (sym same) (capacity_small s open'.0)
+
+  -- what levels are asked of
+  pub leveling : Drawn held.map (at net.lefts) sizes.faces sizes.outer (atℤ net.capacities)
+      × ((d : ℕ) → d < 2 * sizes.edges → Limited most_on_sheet (atℤ net.capacities d))
+  leveling = (drawn, small)
 
   -- what decisions are lent
   pub opened : (order from grouped starts : List ℕ)
-      → Walked (2 * net.sizes.edges) net.sizes.faces net.sizes.outer net.sizes.parts (at net.rotations) net.lefts order from grouped starts
-      → OpenDrawing net.sizes net.tails net.rotations net.lefts net.capacities order from grouped starts
+      → Walked (2 * sizes.edges) sizes.faces sizes.outer sizes.parts (at net.rotations) net.lefts order from grouped starts
+      → OpenDrawing sizes net.tails net.rotations net.lefts net.capacities order from grouped starts
   opened order from grouped starts walked = record { drawn = drawn; walked = walked }
 
   pub opened_sheet : (order from grouped starts : List ℕ)
-      → Walked (2 * net.sizes.edges) net.sizes.faces net.sizes.outer net.sizes.parts (at net.rotations) net.lefts order from grouped starts
-      → OpenSheet net.sizes net.tails net.rotations net.lefts net.capacities order from grouped starts
+      → Walked (2 * sizes.edges) sizes.faces sizes.outer sizes.parts (at net.rotations) net.lefts order from grouped starts
+      → OpenSheet sizes net.tails net.rotations net.lefts net.capacities order from grouped starts
   opened_sheet order from grouped starts walked = record { opened = opened order from grouped starts walked; small = small }
 
   -- what Mark asks, which is less
-  pub markable : OpenPaper net.sizes net.tails net.capacities
+  pub markable : OpenPaper sizes net.tails net.capacities
   markable =
       let n = sheet_counts s open'.0 in record {
         few_nodes = omega (arith, open'.1.nodes_are, n.1);
@@ -159,9 +161,9 @@ module _ (s : List ℕ) (net : Network) (open' : NoneOf (sheet_checks s) × Hold
         small = small;
       }
 
-  pub solved_sheet : {u source w sink : ℕ} {v value : ℤ} → u ≡ source → w ≡ sink → v ≡ value → (flows flows' : List ℤ) (set set' : List ℕ) (r : SolveAnswer)
-      → Solved held
-      (question_checks net.sizes.nodes net.sizes.edges u w v flows set) u w v flows flows' set set' r
+  pub solved_sheet : {u source w sink : ℕ} {v value : ℤ} → u ≡ source → w ≡ sink → v ≡ value → (flows flows' : List ℤ) (set set' : List ℕ)
+      (r : Result Solution Refusal) → Solved held
+      (question_checks sizes.nodes sizes.edges u w v flows set) u w v flows flows' set set' r
       → Solves s source sink value flows flows' set set' r
   unfolding solve_checks
   solved_sheet {source = source} {sink = sink} {value = value} from to e flows flows' set set' r h =
@@ -170,13 +172,13 @@ module _ (s : List ℕ) (net : Network) (open' : NoneOf (sheet_checks s) × Hold
       (rw (from, to, e) at h))
 
   -- and its set is the one that the search names
-  pub named_sheet : {u source w sink : ℕ} {v value : ℤ} → u ≡ source → w ≡ sink → v ≡ value → (set' : List ℕ) (r : SolveAnswer)
+  pub named_sheet : {u source w sink : ℕ} {v value : ℤ} → u ≡ source → w ≡ sink → v ≡ value → (set' : List ℕ) (r : Result Solution Refusal)
       → SetNamed held u w v set' r → SetNamed (sheet_drawing s) source sink value set' r
   named_sheet {source = source} {sink = sink} {value = value} from to e set' r h =
       subst (λ 𝓓. SetNamed 𝓓 source sink value set' r) same (rw (from, to, e) at h)
 
-  pub largest_sheet : {u source w sink : ℕ} → u ≡ source → w ≡ sink → (flows flows' : List ℤ) (set set' : List ℕ) (r : LargestAnswer)
-      → LargestFound held (search_checks net.sizes.nodes net.sizes.edges u w flows set) u w flows flows' set set' r
+  pub largest_sheet : {u source w sink : ℕ} → u ≡ source → w ≡ sink → (flows flows' : List ℤ) (set set' : List ℕ) (r : Result (Option ℤ) Refusal)
+      → LargestFound held (search_checks sizes.nodes sizes.edges u w flows set) u w flows flows' set set' r
       → FindsLargest s source sink flows flows' set set' r
   unfolding largest_checks
   largest_sheet {source = source} {sink = sink} from to flows flows' set set' r h =
@@ -185,8 +187,8 @@ module _ (s : List ℕ) (net : Network) (open' : NoneOf (sheet_checks s) × Hold
       (rw (from, to) at h))
 
   pub range_sheet : {u source w sink : ℕ} → u ≡ source → w ≡ sink
-      → (low low' : List ℤ) (below below' : List ℕ) (high high' : List ℤ) (above above' : List ℕ) (r : RangeAnswer)
-      → RangeFound held (span_checks net.sizes.nodes net.sizes.edges u w low below high above) u w low low' below below' high high' above above' r
+      → (low low' : List ℤ) (below below' : List ℕ) (high high' : List ℤ) (above above' : List ℕ) (r : Result (Option Range) Refusal)
+      → RangeFound held (span_checks sizes.nodes sizes.edges u w low below high above) u w low low' below below' high high' above above' r
       → FindsRange s source sink low low' below below' high high' above above' r
   unfolding range_checks
   range_sheet {source = source} {sink = sink} from to low low' below below' high high' above above' r h =
@@ -195,8 +197,8 @@ module _ (s : List ℕ) (net : Network) (open' : NoneOf (sheet_checks s) × Hold
       source sink low low' below below' high high' above above' r) same (rw (from, to) at h))
 
   pub raise_sheet : {u source w sink x edge : ℕ} {v value : ℤ} → u ≡ source → w ≡ sink → v ≡ value → x ≡ edge
-      → (flows flows' : List ℤ) (set set' : List ℕ) (r : RaiseAnswer)
-      → RaiseFound held (limit_checks net.sizes.nodes net.sizes.edges u w v x flows set) u w v x flows flows' set set' r
+      → (flows flows' : List ℤ) (set set' : List ℕ) (r : Result (Option ℤ) Refusal)
+      → RaiseFound held (limit_checks sizes.nodes sizes.edges u w v x flows set) u w v x flows flows' set set' r
       → RaisesLimit s source sink value edge flows flows' set set' r
   unfolding raise_checks
   raise_sheet {source = source} {sink = sink} {edge = edge} {value = value} from to e along flows flows' set set' r h =
@@ -205,7 +207,7 @@ module _ (s : List ℕ) (net : Network) (open' : NoneOf (sheet_checks s) × Hold
       source sink value edge flows flows' set set' r) same (rw (from, to, e, along) at h))
 
   pub after_sheet : (b : List ℕ) (w n : ℕ) {u source x sink : ℕ} → u ≡ source → x ≡ sink
-      → (limits limits' flows flows' : List ℤ) (set set' : List ℕ) (r : LargestAnswer)
+      → (limits limits' flows flows' : List ℤ) (set set' : List ℕ) (r : Result (Option ℤ) Refusal)
       → FoundAfter held (capture_checks held b w n u x limits flows set) b w n u x limits limits' flows flows' set set' r
       → FindsAfter s b w n source sink limits limits' flows flows' set set' r
   unfolding after_checks
@@ -214,39 +216,43 @@ module _ (s : List ℕ) (net : Network) (open' : NoneOf (sheet_checks s) × Hold
       (subst (λ 𝓓. FoundAfter 𝓓 (capture_checks 𝓓 b w n source sink limits flows set) b w n source sink limits limits' flows flows' set set' r) same
       (rw (from, to) at h))
 
-  pub page_sheet : (n : ℕ) (question : ℕ → Question) (flows flows' : List ℤ) (sets sets' : List ℕ) (r : Page)
-      → Paged (list_checks net.sizes.nodes net.sizes.edges n flows sets) net.sizes.edges (words_for net.sizes.nodes) n
-      (λ i. solved_alone held (question i)) flows flows' sets sets' r
-      → AnswersPage s n question flows flows' sets sets' r
-  unfolding page_checks solve_checks
-  page_sheet n question flows flows' sets sets' r h =
-      let 𝓓 = sheet_drawing s in
-      page_lines (list_checks (nodes_of s) (edges_of s) n flows sets) (page_checks s n flows sets) (edges_of s) (words_for (nodes_of s)) n
-      (λ i. solved_alone 𝓓 (question i)) (λ i. solves_alone s (question i))
-      (none_append (sheet_checks s) _ open'.0) (λ k p. first_right (sheet_checks s) _ k p open'.0)
-      (λ passed i l f f' t t' a line. solved_after (sheet_checks s) open'.0 𝓓 _ _ _ _ f f' t t' a line.0)
-      flows flows' sets sets' r
-      (subst (λ 𝓓. Paged (list_checks 𝓓.map.nodes 𝓓.map.edges n flows sets) 𝓓.map.edges (words_for 𝓓.map.nodes) n
-      (λ i. solved_alone 𝓓 (question i)) flows flows' sets sets' r) same h)
+  module _ (n : ℕ) (question : ℕ → Question) (flows flows' : List ℤ) (sets sets' : List ℕ) where
+    page_same : (r : Result Page Refusal)
+        → Paged (list_checks sizes.nodes sizes.edges n flows sets) sizes.edges (words_for sizes.nodes) n
+        (λ i. solved_alone held (question i)) flows flows' sets sets' r
+        → Paged (list_checks (nodes_of s) (edges_of s) n flows sets) (edges_of s) (words_for (nodes_of s)) n
+        (λ i. solved_alone (sheet_drawing s) (question i)) flows flows' sets sets' r
+    page_same r h =
+        subst (λ 𝓓. Paged (list_checks 𝓓.map.nodes 𝓓.map.edges n flows sets) 𝓓.map.edges (words_for 𝓓.map.nodes) n
+        (λ i. solved_alone 𝓓 (question i)) flows flows' sets sets' r) same h
 
-  pub page_named : (n : ℕ) (question : ℕ → Question) (flows flows' : List ℤ) (sets sets' : List ℕ) (r : Page)
-      → Paged (list_checks net.sizes.nodes net.sizes.edges n flows sets) net.sizes.edges (words_for net.sizes.nodes) n
-      (λ i. solved_alone held (question i)) flows flows' sets sets' r
-      → PageNamed s n question sets' r
-  page_named n question flows flows' sets sets' r h passed i l =
-      let p = subst (λ 𝓓. Paged (list_checks 𝓓.map.nodes 𝓓.map.edges n flows sets) 𝓓.map.edges (words_for 𝓓.map.nodes) n
-      (λ i. solved_alone 𝓓 (question i)) flows flows' sets sets' r) same h in
-      (lines_of (list_checks (nodes_of s) (edges_of s) n flows sets) (edges_of s) (words_for (nodes_of s)) n (λ i. solved_alone (sheet_drawing s) (question i))
-      flows flows' sets sets' r p passed i l).1
+    pub page_sheet : (r : Result Page Refusal)
+        → Paged (list_checks sizes.nodes sizes.edges n flows sets) sizes.edges (words_for sizes.nodes) n
+        (λ i. solved_alone held (question i)) flows flows' sets sets' r
+        → AnswersPage s n question flows flows' sets sets' r × PageNamed s n question sets' r
+    unfolding page_checks solve_checks
+    page_sheet (Ok page) h =
+        let p = page_same (Ok page) h in (
+          (
+            none_append (sheet_checks s) _ open'.0 p.0,
+            p.1,
+            (λ i l. solved_after (sheet_checks s) open'.0 (sheet_drawing s) _ _ _ _ _ _ _ _ _ (p.2 i l).0),
+            p.3,
+            p.4,
+            p.5,
+          ),
+          (λ i l. (p.2 i l).1),
+        )
+    page_sheet (Err r) h = let p = page_same (Err r) h in ((first_right (sheet_checks s) _ r.number r.place open'.0 p.0, p.1, p.2), tt)
 
-  pub marked_sheet : {u source w sink : ℕ} → u ≡ source → w ≡ sink → (flows : List ℤ) (r : MarkAnswer)
+  pub marked_sheet : {u source w sink : ℕ} → u ≡ source → w ≡ sink → (flows : List ℤ) (r : Result ℤ Refusal)
       → Marked held (paper_checks held u w flows) u w flows r → Marks s source sink flows r
   unfolding mark_checks
   marked_sheet {source = source} {sink = sink} from to flows r h =
       marked_after (sheet_checks s) open'.0 (sheet_drawing s) _ source sink flows r
       (subst (λ 𝓓. Marked 𝓓 (paper_checks 𝓓 source sink flows) source sink flows r) same (rw (from, to) at h))
 
-  pub levels_sheet : (flows levels levels' : List ℤ) (r : LevelAnswer)
+  pub levels_sheet : (flows levels levels' : List ℤ) (r : Result Unit Refusal)
       → LevelsGiven held
       (balanced_checks held flows levels) flows levels levels' r
       → GivesLevels s flows levels levels' r
@@ -255,7 +261,7 @@ module _ (s : List ℕ) (net : Network) (open' : NoneOf (sheet_checks s) × Hold
       levels_after (sheet_checks s) open'.0 (sheet_drawing s) _ flows levels levels' r
       (subst (λ 𝓓. LevelsGiven 𝓓 (balanced_checks 𝓓 flows levels) flows levels levels' r) same h)
 
-  pub settings_sheet : (levels flows flows' : List ℤ) (r : LevelAnswer)
+  pub settings_sheet : (levels flows flows' : List ℤ) (r : Result Unit Refusal)
       → SettingsGiven held
       (leveled_checks held levels flows) levels flows flows' r
       → GivesSettings s levels flows flows' r
@@ -265,12 +271,12 @@ module _ (s : List ℕ) (net : Network) (open' : NoneOf (sheet_checks s) × Hold
       (subst (λ 𝓓. SettingsGiven 𝓓 (leveled_checks 𝓓 levels flows) levels flows flows' r) same h)
 
   -- what Totals asks
-  pub roundable : (net.sizes.nodes ≤ 1024) × (net.sizes.edges ≤ 512) × Sound held.map
-      × ((d : ℕ) → d < 2 * net.sizes.edges → Limited most_on_sheet (atℤ net.capacities d))
+  pub roundable : (sizes.nodes ≤ 1024) × (sizes.edges ≤ 512) × Sound held.map
+      × ((d : ℕ) → d < 2 * sizes.edges → Limited most_on_sheet (atℤ net.capacities d))
   roundable = (markable.few_nodes, markable.few_edges, drawn.plane.sound, small)
 
-  pub totals_sheet : (set : List ℕ) (out out' : List ℤ) (r : TotalsAnswer)
-      → TotalGiven held.map (atℤ net.capacities) (total_checks net.sizes.nodes set out) set out out' r
+  pub totals_sheet : (set : List ℕ) (out out' : List ℤ) (r : Result ℤ Refusal)
+      → TotalGiven held.map (atℤ net.capacities) (total_checks sizes.nodes set out) set out out' r
       → GivesTotals s set out out' r
   unfolding totals_checks
   totals_sheet set out out' r h =
@@ -278,10 +284,10 @@ module _ (s : List ℕ) (net : Network) (open' : NoneOf (sheet_checks s) × Hold
       (subst (λ 𝓓. TotalGiven 𝓓.map 𝓓.capacity (total_checks 𝓓.map.nodes set out) set out out' r) same h)
 
   -- what the text asks, which is less still
-  pub counts_small : (net.sizes.nodes ≤ 1024) × (net.sizes.edges ≤ 512)
+  pub counts_small : (sizes.nodes ≤ 1024) × (sizes.edges ≤ 512)
   counts_small = (markable.few_nodes, markable.few_edges)
 
-  pub dimacs_sheet : (source sink : ℕ) (out out' : List ℕ) (r : DimacsAnswer)
+  pub dimacs_sheet : (source sink : ℕ) (out out' : List ℕ) (r : Result ℕ Refusal)
       → TextWritten held
       (text_checks held source sink out) source sink out out' r
       → WritesDimacs s source sink out out' r

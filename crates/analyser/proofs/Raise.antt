@@ -6,9 +6,11 @@ use Prim.Native.Nat.{ℕ, ◌*◌}
 use native.Mathlib.Omega.{arith}
 use lib.IntN.{ℤ, pos}
 use lib.Signed.{◌≤ℤ◌, ◌<ℤ◌}
+use Rattle.std.specs.Prelude.{Option, Some, None, Result, Ok, Err}
 use Rattle.integers.proofs.Laws.{le_antisym, lt_or_ge}
 use Rattle.refusals.specs.Order.{NoneOf}
 use Rattle.refusals.proofs.Order.{append_none, first_none}
+use Rattle.refusals.specs.declared.Refusal.{Refusal}
 use Rattle.flows.specs.Settings.{Carries}
 use Rattle.flows.specs.Highest.{Highest}
 use Rattle.flows.specs.ProvingSet.{member}
@@ -22,8 +24,6 @@ use Rattle.questions.specs.Question.{end_checks}
 use Rattle.questions.proofs.Asked.{ends_in, ends_differ}
 use Rattle.raising.specs.Raised.{raised}
 use Rattle.raising.specs.Raise.{limit_checks}
-use Rattle.raising.specs.declared.RaiseAnswer.{RaiseAnswer}
-use Rattle.raising.specs.declared.RaiseAnswer.TheVariants.{Limit, None, Refused}
 use Rattle.raising.proofs.Raised.{le_same, raised_more, raised_present}
 use Rattle.raising.proofs.Raising.{Weighed, weighed, edge_in}
 use Rattle.analyser.specs.Raise.{raise_checks, RaisesLimit}
@@ -42,11 +42,11 @@ module _ (s : List ℕ) (source sink : ℕ) (value : ℤ) (edge : ℕ) where
       )
 
   module _ (flows flows' : List ℤ) (set set' : List ℕ) where
-    abbrev Answers : RaiseAnswer → Type 0
+    abbrev Answers : Result (Option ℤ) Refusal → Type 0
     Answers = RaisesLimit s source sink value edge flows flows' set set'
 
     -- ── a limit ──
-    module _ (v : ℤ) (h : Answers (Limit v)) where
+    module _ (v : ℤ) (h : Answers (Ok (Some v))) where
       limit_highest : Highest (sheet_map s) (outer_of s) (raised (capacity_of s) edge v) source sink value (atℤ flows')
       limit_highest =
           highest_agrees (sheet_map s) h.3.0 (atℤ flows')
@@ -78,34 +78,34 @@ module _ (s : List ℕ) (source sink : ℕ) (value : ℤ) (edge : ℕ) where
       present_most : capacity_of s (2 * edge) ≤ℤ pos 1000000
       present_most = (capacity_small s apart.0 (2 * edge) (omega (arith, edge_in (edges_of s) edge known.is_edge))).high
 
-      most_fails : Answers None → PossibleWith s source sink value edge (pos 1000000) → ⊥
+      most_fails : Answers (Ok None) → PossibleWith s source sink value edge (pos 1000000) → ⊥
       most_fails h p =
           let e = ends_in (nodes_of s) source sink known.ends_two in
           proves_excludes (plane s apart.0).sound.range e.0 e.1 (ends_differ (nodes_of s) source sink known.ends_two)
           (raised (capacity_of s) edge (pos 1000000)) value (member h.2.0) h.2.2 p.0 p.1
 
-      none_exactly : (answer : RaiseAnswer) → Answers answer → (answer ≡ None) ↔ (PossibleWith s source sink value edge (pos 1000000) → ⊥)
+      none_exactly : (answer : Result (Option ℤ) Refusal) → Answers answer → (answer ≡ Ok None) ↔ (PossibleWith s source sink value edge (pos 1000000) → ⊥)
       none_exactly answer found = ((λ e. most_fails (subst Answers e found)), by answer found)
         where
-          by : (r : RaiseAnswer) → Answers r → (PossibleWith s source sink value edge (pos 1000000) → ⊥) → r ≡ None
-          by (Limit v) h fails = absurd (fails (atℤ flows', greater_admits v (pos 1000000) (atℤ flows') h.2 (limit_highest v h).carries))
-          by None h fails = refl
-          by (Refused k p) h fails = absurd (first_none (raise_checks s source sink value edge flows set) k p h.0 asked)
+          by : (r : Result (Option ℤ) Refusal) → Answers r → (PossibleWith s source sink value edge (pos 1000000) → ⊥) → r ≡ Ok None
+          by (Ok (Some v)) h fails = absurd (fails (atℤ flows', greater_admits v (pos 1000000) (atℤ flows') h.2 (limit_highest v h).carries))
+          by (Ok None) h fails = refl
+          by (Err r) h fails = absurd (first_none (raise_checks s source sink value edge flows set) r.number r.place h.0 asked)
 
-      present_exactly : (answer : RaiseAnswer) → Answers answer → (answer ≡ Limit (capacity_of s (2 * edge))) ↔ Possible s source sink value
+      present_exactly : (answer : Result (Option ℤ) Refusal) → Answers answer → (answer ≡ Ok (Some (capacity_of s (2 * edge)))) ↔ Possible s source sink value
       present_exactly answer found = ((λ e. there (subst Answers e found)), by answer found)
         where
-          there : Answers (Limit (capacity_of s (2 * edge))) → Possible s source sink value
+          there : Answers (Ok (Some (capacity_of s (2 * edge)))) → Possible s source sink value
           there h = (atℤ flows', (present_same (atℤ flows')).0 (limit_highest (capacity_of s (2 * edge)) h).carries)
 
-          by : (r : RaiseAnswer) → Answers r → Possible s source sink value → r ≡ Limit (capacity_of s (2 * edge))
-          by (Limit v) h p =
-              ap Limit (le_antisym
+          by : (r : Result (Option ℤ) Refusal) → Answers r → Possible s source sink value → r ≡ Ok (Some (capacity_of s (2 * edge)))
+          by (Ok (Some v)) h p =
+              ap (λ v. Ok (Some v)) (le_antisym
               ((limit_exactly v h (capacity_of s (2 * edge)) (le_same (capacity_of s (2 * edge)))).0 (p.0, (present_same p.0).1 p.1))
               h.1)
-          by None h p =
+          by (Ok None) h p =
               absurd (most_fails h (p.0, greater_admits (capacity_of s (2 * edge)) (pos 1000000) p.0 present_most ((present_same p.0).1 p.1)))
-          by (Refused k q) h p = absurd (first_none (raise_checks s source sink value edge flows set) k q h.0 asked)
+          by (Err r) h p = absurd (first_none (raise_checks s source sink value edge flows set) r.number r.place h.0 asked)
 
 -- ── all ──
 pub raised_limit : RaisedLimit

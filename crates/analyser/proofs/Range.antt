@@ -8,10 +8,12 @@ use Prim.Native.Nat.{ℕ, ◌<◌}
 use native.Mathlib.Omega.{arith}
 use lib.IntN.{ℤ, pos, neg_ℤ, ◌+ℤ◌, ◌-ℤ◌}
 use lib.Signed.{◌≤ℤ◌}
+use Rattle.std.specs.Prelude.{Option, Some, None, Result, Ok, Err}
 use Rattle.integers.proofs.Omega.{atoms₁, atoms₂, parts, equal, at_most, from_at_most}
 use Rattle.integers.proofs.Laws.{le_antisym}
 use Rattle.refusals.specs.Order.{NoneOf}
 use Rattle.refusals.proofs.Order.{append_none, first_none}
+use Rattle.refusals.specs.declared.Refusal.{Refusal}
 use Rattle.flows.specs.ProvingSet.{Proves, member}
 use Rattle.flows.proofs.Agreement.{highest_agrees}
 use Rattle.flows.proofs.Interval.{beside_proves}
@@ -23,12 +25,9 @@ use Rattle.records.specs.Sheet.{nodes_of, edges_of, capacity_of, outer_of, sheet
 use Rattle.sheets.specs.Open.{sheet_checks}
 use Rattle.questions.specs.Question.{end_checks}
 use Rattle.questions.specs.Question.{end_checks}
-use Rattle.questions.specs.declared.LargestAnswer.{LargestAnswer}
-use Rattle.questions.specs.declared.LargestAnswer.TheVariants as largest
 use Rattle.questions.proofs.Asked.{ends_in, ends_differ}
 use Rattle.ranges.specs.Range.{span_checks}
-use Rattle.ranges.specs.declared.RangeAnswer.{RangeAnswer}
-use Rattle.ranges.specs.declared.RangeAnswer.TheVariants.{Values, None, Refused}
+use Rattle.ranges.specs.declared.Range.{Range}
 use Rattle.ranges.proofs.Exchanged.{ends_exchanged}
 use Rattle.ranges.proofs.Ranging as ranging
 use Rattle.analyser.specs.Largest.{largest_checks, FindsLargest}
@@ -39,7 +38,7 @@ use Rattle.analyser.proofs.Accepted.{largest_none}
 use Rattle.analyser.proofs.Demand3 as demand
 
 module _ (s : List ℕ) (source sink : ℕ) (low low' : List ℤ) (below below' : List ℕ) (high high' : List ℤ) (above above' : List ℕ) where
-  abbrev Found : RangeAnswer → Type 0
+  abbrev Found : Result (Option Range) Refusal → Type 0
   Found = FindsRange s source sink low low' below below' high high' above above'
 
   module _ (asked : NoneOf (range_checks s source sink low below high above)) where
@@ -69,15 +68,15 @@ module _ (s : List ℕ) (source sink : ℕ) (low low' : List ℤ) (below below' 
         largest_none s sink source low below
         (record { sheet = apart.0; ends_two = ends_exchanged (nodes_of s) source sink span.ends_two; has_room = span.low_room })
 
-    answered : (k p : ℕ) → Found (Refused k p) → ⊥
-    answered k p h = first_none (range_checks s source sink low below high above) k p h.0 asked
+    answered : (r : Refusal) → Found (Err r) → ⊥
+    answered r h = first_none (range_checks s source sink low below high above) r.number r.place h.0 asked
 
     -- ── two values: an answer of Largest at either end ──
-    module _ (v w : ℤ) (h : Found (Values v w)) where
-      there : FindsLargest s source sink high high' above above' (largest.Value w)
+    module _ (r : Range) (h : Found (Ok (Some r))) where
+      there : FindsLargest s source sink high high' above above' (Ok (Some r.largest))
       there = (asked_there, h.3, h.4)
 
-      back : FindsLargest s sink source low low' below below' (largest.Value (neg_ℤ v))
+      back : FindsLargest s sink source low low' below below' (Ok (Some (neg_ℤ r.least)))
       back = (
         asked_back,
         (h.1.0, highest_back (plane s apart.0).sound.range ends.0 ends.1 differ h.1.1, h.1.2),
@@ -85,76 +84,77 @@ module _ (s : List ℕ) (source sink : ℕ) (low low' : List ℤ) (below below' 
           h.2.0,
           h.2.1,
           subst (λ z. Proves (sheet_map s) (capacity_of s) sink source z (member h.2.0)) next
-              (proves_back (sheet_map s) (capacity_of s) sink source (v -ℤ pos 1) (member h.2.0) h.2.2),
+              (proves_back (sheet_map s) (capacity_of s) sink source (r.least -ℤ pos 1) (member h.2.0) h.2.2),
         ),
       )
         where
-          next : neg_ℤ (v -ℤ pos 1) ≡ neg_ℤ v +ℤ pos 1
-          next = let a = atoms₁ v in equal (search parts) (omega arith)
+          next : neg_ℤ (r.least -ℤ pos 1) ≡ neg_ℤ r.least +ℤ pos 1
+          next = let a = atoms₁ r.least in equal (search parts) (omega arith)
 
-      pub least_highest : HighestFor s source sink v (atℤ low')
+      pub least_highest : HighestFor s source sink r.least (atℤ low')
       least_highest =
           highest_agrees (sheet_map s) h.1.0 (atℤ low')
           (λ e l. sym (filled_front (pos 0) (edges_of s) h.1.0 low low' h.1.2 e l)) h.1.1
 
-      pub largest_highest : HighestFor s source sink w (atℤ high')
-      largest_highest = demand.largest_highest s source sink high high' above above' asked_there w there
+      pub largest_highest : HighestFor s source sink r.largest (atℤ high')
+      largest_highest = demand.largest_highest s source sink high high' above above' asked_there r.largest there
 
-      pub least_carries : Delivers s source sink v (atℤ low')
+      pub least_carries : Delivers s source sink r.least (atℤ low')
       least_carries = least_highest.carries
 
-      pub largest_carries : Delivers s source sink w (atℤ high')
+      pub largest_carries : Delivers s source sink r.largest (atℤ high')
       largest_carries = largest_highest.carries
 
-      pub nothing_greater : (value : ℤ) (x : ℕ → ℤ) → Delivers s source sink value x → value ≤ℤ w
-      nothing_greater = demand.nothing_greater s source sink high high' above above' asked_there w there
+      pub nothing_greater : (value : ℤ) (x : ℕ → ℤ) → Delivers s source sink value x → value ≤ℤ r.largest
+      nothing_greater = demand.nothing_greater s source sink high high' above above' asked_there r.largest there
 
-      pub nothing_less : (value : ℤ) (x : ℕ → ℤ) → Delivers s source sink value x → v ≤ℤ value
+      pub nothing_less : (value : ℤ) (x : ℕ → ℤ) → Delivers s source sink value x → r.least ≤ℤ value
       nothing_less value x d =
-          let l = demand.nothing_greater s sink source low low' below below' asked_back (neg_ℤ v) back (neg_ℤ value) x
+          let l = demand.nothing_greater s sink source low low' below below' asked_back (neg_ℤ r.least) back (neg_ℤ value) x
           (carries_back (plane s apart.0).sound.range ends.0 ends.1 differ x d) in
-          let a = atoms₂ v value in at_most (search parts) (omega (arith, from_at_most l (search parts)))
+          let a = atoms₂ r.least value in at_most (search parts) (omega (arith, from_at_most l (search parts)))
 
       pub between_exactly : (value : ℤ)
-          → (Possible s source sink value → (v ≤ℤ value) × (value ≤ℤ w)) × ((v ≤ℤ value) × (value ≤ℤ w) → Possible s source sink value)
+          → (Possible s source sink value → (r.least ≤ℤ value) × (value ≤ℤ r.largest))
+          × ((r.least ≤ℤ value) × (value ≤ℤ r.largest) → Possible s source sink value)
       between_exactly value = (
         (λ p. (nothing_less value p.0 p.1, nothing_greater value p.0 p.1)),
         (λ l.
-            between (plane s apart.0) ends.0 ends.1 differ (outer_of s) (outer_in s apart.0) (capacity_of s) v value w l.0 l.1
+            between (plane s apart.0) ends.0 ends.1 differ (outer_of s) (outer_in s apart.0) (capacity_of s) r.least value r.largest l.0 l.1
             (atℤ low') (atℤ high') least_carries largest_carries),
       )
 
     -- ── none: an answer of Largest too ──
-    there_none : Found None → FindsLargest s source sink high high' above above' largest.None
+    there_none : Found (Ok None) → FindsLargest s source sink high high' above above' (Ok None)
     there_none h = (asked_there, h.2, (h.3.0, h.3.2, h.3.3))
 
-    pub none_delivered : Found None → (value : ℤ) → Impossible s source sink value
+    pub none_delivered : Found (Ok None) → (value : ℤ) → Impossible s source sink value
     none_delivered h = demand.none_delivered s source sink high high' above above' asked_there (there_none h)
 
-    pub none_exactly : (answer : RangeAnswer) → Found answer
-        → (answer ≡ None → (value : ℤ) → Impossible s source sink value) × (((value : ℤ) → Impossible s source sink value) → answer ≡ None)
+    pub none_exactly : (answer : Result (Option Range) Refusal) → Found answer
+        → (answer ≡ Ok None → (value : ℤ) → Impossible s source sink value) × (((value : ℤ) → Impossible s source sink value) → answer ≡ Ok None)
     none_exactly answer found = ((λ e. none_delivered (subst Found e found)), by answer found)
       where
-        by : (r : RangeAnswer) → Found r → ((value : ℤ) → Impossible s source sink value) → r ≡ None
-        by (Values v w) h nothing = absurd (nothing w (atℤ high') (largest_carries v w h))
-        by None h nothing = refl
-        by (Refused k p) h nothing = absurd (answered k p h)
+        by : (r : Result (Option Range) Refusal) → Found r → ((value : ℤ) → Impossible s source sink value) → r ≡ Ok None
+        by (Ok (Some r)) h nothing = absurd (nothing r.largest (atℤ high') (largest_carries r h))
+        by (Ok None) h nothing = refl
+        by (Err r) h nothing = absurd (answered r h)
 
   -- ── beside Largest, with slices of its own ──
   module _ (flows flows' : List ℤ) (set set' : List ℕ) (asked : NoneOf (largest_checks s source sink flows set)) where
-    pub same_largest : (v w : ℤ) → Found (Values v w) → (answer : LargestAnswer) → FindsLargest s source sink flows flows' set set' answer
-        → answer ≡ largest.Value w
-    same_largest v w h (largest.Value z) l =
-        ap largest.Value (le_antisym
-        (nothing_greater h.0 v w h z (atℤ flows') (demand.largest_carries s source sink flows flows' set set' asked z l))
-        (demand.nothing_greater s source sink flows flows' set set' asked z l w (atℤ high') (largest_carries h.0 v w h)))
-    same_largest v w h largest.None l =
-        absurd (demand.none_delivered s source sink flows flows' set set' asked l w (atℤ high') (largest_carries h.0 v w h))
-    same_largest v w h (largest.Refused k p) l = absurd (demand.largest_answered s source sink flows flows' set set' asked k p l)
+    pub same_largest : (r : Range) → Found (Ok (Some r)) → (answer : Result (Option ℤ) Refusal) → FindsLargest s source sink flows flows' set set' answer
+        → answer ≡ Ok (Some r.largest)
+    same_largest r h (Ok (Some z)) l =
+        ap (λ v. Ok (Some v)) (le_antisym
+        (nothing_greater h.0 r h z (atℤ flows') (demand.largest_carries s source sink flows flows' set set' asked z l))
+        (demand.nothing_greater s source sink flows flows' set set' asked z l r.largest (atℤ high') (largest_carries h.0 r h)))
+    same_largest r h (Ok None) l =
+        absurd (demand.none_delivered s source sink flows flows' set set' asked l r.largest (atℤ high') (largest_carries h.0 r h))
+    same_largest r h (Err q) l = absurd (demand.largest_answered s source sink flows flows' set set' asked q l)
 
-    pub same_none : (answer : RangeAnswer) → NoneOf (range_checks s source sink low below high above) → Found answer
-        → (other : LargestAnswer) → FindsLargest s source sink flows flows' set set' other
-        → (other ≡ largest.None → answer ≡ None) × (answer ≡ None → other ≡ largest.None)
+    pub same_none : (answer : Result (Option Range) Refusal) → NoneOf (range_checks s source sink low below high above) → Found answer
+        → (other : Result (Option ℤ) Refusal) → FindsLargest s source sink flows flows' set set' other
+        → (other ≡ Ok None → answer ≡ Ok None) × (answer ≡ Ok None → other ≡ Ok None)
     same_none answer spanned found other sought =
         let a = none_exactly spanned answer found in
         let b = demand.none_exactly s source sink flows flows' set set' asked other sought in
@@ -163,24 +163,24 @@ module _ (s : List ℕ) (source sink : ℕ) (low low' : List ℤ) (below below' 
 -- ── all ──
 pub least_and_largest : LeastAndLargest
 least_and_largest = record {
-  least_carries = λ s source sink low low' below below' high high' above above' v w h.
-      least_carries s source sink low low' below below' high high' above above' h.0 v w h;
-  largest_carries = λ s source sink low low' below below' high high' above above' v w h.
-      largest_carries s source sink low low' below below' high high' above above' h.0 v w h;
-  least_highest = λ s source sink low low' below below' high high' above above' v w h.
-      least_highest s source sink low low' below below' high high' above above' h.0 v w h;
-  largest_highest = λ s source sink low low' below below' high high' above above' v w h.
-      largest_highest s source sink low low' below below' high high' above above' h.0 v w h;
-  next_lower_impossible = λ s source sink low low' below below' high high' above above' v w h. h.2;
-  next_greater_impossible = λ s source sink low low' below below' high high' above above' v w h. h.4;
-  between_exactly = λ s source sink low low' below below' high high' above above' v w h.
-      between_exactly s source sink low low' below below' high high' above above' h.0 v w h;
+  least_carries = λ s source sink low low' below below' high high' above above' r h.
+      least_carries s source sink low low' below below' high high' above above' h.0 r h;
+  largest_carries = λ s source sink low low' below below' high high' above above' r h.
+      largest_carries s source sink low low' below below' high high' above above' h.0 r h;
+  least_highest = λ s source sink low low' below below' high high' above above' r h.
+      least_highest s source sink low low' below below' high high' above above' h.0 r h;
+  largest_highest = λ s source sink low low' below below' high high' above above' r h.
+      largest_highest s source sink low low' below below' high high' above above' h.0 r h;
+  next_lower_impossible = λ s source sink low low' below below' high high' above above' r h. h.2;
+  next_greater_impossible = λ s source sink low low' below below' high high' above above' r h. h.4;
+  between_exactly = λ s source sink low low' below below' high high' above above' r h.
+      between_exactly s source sink low low' below below' high high' above above' h.0 r h;
   none_exactly = λ s source sink low low' below below' high high' above above' answer asked h.
       none_exactly s source sink low low' below below' high high' above above' asked answer h;
   none_proves = λ s source sink low low' below below' high high' above above' h.
       (h.3.0, h.3.1, h.3.2, beside_proves (sheet_map s) (capacity_of s) source sink (member h.3.0) h.3.3.0 h.3.3.1);
-  same_largest = λ s source sink low low' below below' high high' above above' v w h flows flows' set set' answer asked l.
-      same_largest s source sink low low' below below' high high' above above' flows flows' set set' asked v w h answer l;
+  same_largest = λ s source sink low low' below below' high high' above above' r h flows flows' set set' answer asked l.
+      same_largest s source sink low low' below below' high high' above above' flows flows' set set' asked r h answer l;
   same_none = λ s source sink low low' below below' high high' above above' answer spanned found flows flows' set set' other asked sought.
       same_none s source sink low low' below below' high high' above above' flows flows' set set' asked answer spanned found other sought;
 }

@@ -7,8 +7,10 @@ use Prim.Native.Nat.{ℕ, ◌≤◌, ◌<◌}
 use native.Mathlib.Omega.{arith}
 use lib.ListN.{length}
 use lib.IntN.{ℤ, pos, ◌-ℤ◌}
+use Rattle.std.specs.Prelude.{Result, Ok, Err}
 use Rattle.refusals.specs.Order.{NoneOf}
 use Rattle.refusals.proofs.Order.{none_append, first_none}
+use Rattle.refusals.specs.declared.Refusal.{Refusal}
 use Rattle.maps.specs.Face.{faces, left, right}
 use Rattle.maps.proofs.Faces.{left_in, right_in, first_face}
 use Rattle.flows.specs.ZeroFace.{LowestElsewhere, ZeroFace}
@@ -18,17 +20,12 @@ use Rattle.arrays.proofs.FillLoops.{filled_front}
 use Rattle.balance.proofs.Within.{within_none}
 use Rattle.balance.proofs.Balance.{circulation_none, none_carries, carries_none}
 use Rattle.records.specs.Sheet.{nodes_of, edges_of, capacity_of, outer_of, sheet_map, sheet_drawing}
-use Rattle.records.proofs.Head.{kind_one_outer}
+use Rattle.records.proofs.Heads.{kind_one_outer}
 use Rattle.records.proofs.KindOne.{kind_one_judged}
 use Rattle.sheets.specs.Open.{sheet_checks}
 use Rattle.questions.specs.Question.{end_checks}
 use Rattle.questions.specs.Mark.{paper_checks}
-use Rattle.questions.specs.declared.MarkAnswer.{MarkAnswer}
-use Rattle.questions.specs.declared.MarkAnswer.TheVariants.{Value, Refused}
 use Rattle.questions.proofs.Asked.{paper}
-use Rattle.levels.specs.declared.LevelAnswer.{LevelAnswer}
-use Rattle.levels.specs.declared.LevelAnswer.TheVariants.{Done}
-use Rattle.levels.specs.declared.LevelAnswer.TheVariants as level
 use Rattle.levels.proofs.Given.{balanced_none}
 use Rattle.analyser.specs.Mark.{mark_checks, Marks}
 use Rattle.analyser.specs.LevelsOf.{levels_checks, GivesLevels}
@@ -41,7 +38,7 @@ use Rattle.analyser.proofs.ThereAndBack as back
 
 -- ── what Mark accepts ──
 module _ (s : List ℕ) (source sink : ℕ) (flows : List ℤ) where
-  marked_carries : (v : ℤ) → Marks s source sink flows (Value v) → Delivers s source sink v (atℤ flows)
+  marked_carries : (v : ℤ) → Marks s source sink flows (Ok v) → Delivers s source sink v (atℤ flows)
   marked_carries v h =
       let p = paper (sheet_drawing s) source sink flows (mark_parts s source sink flows h.0).1 in
       subst (λ w. Delivers s source sink w (atℤ flows)) (sym h.1)
@@ -57,9 +54,9 @@ module _ (s : List ℕ) (source sink : ℕ) (flows : List ℤ) where
         (none_append (end_checks (nodes_of s) source sink) _ ends
         ((λ l. omega arith), none_append (within_checks (edges_of s) (capacity_of s) (atℤ flows)) _ n.0 n.1))
 
-    carries_marked : (answer : MarkAnswer) → Marks s source sink flows answer → answer ≡ Value v
-    carries_marked (Value w) h = ap Value (h.1 ∙ carried.carries)
-    carries_marked (Refused k p) h = absurd (first_none (mark_checks s source sink flows) k p h none_of_mark)
+    carries_marked : (answer : Result ℤ Refusal) → Marks s source sink flows answer → answer ≡ Ok v
+    carries_marked (Ok w) h = ap Ok (h.1 ∙ carried.carries)
+    carries_marked (Err r) h = absurd (first_none (mark_checks s source sink flows) r.number r.place h none_of_mark)
 
 -- ── what becomes levels ──
 module _ (s : List ℕ) (sheet : NoneOf (sheet_checks s)) where
@@ -75,11 +72,12 @@ module _ (s : List ℕ) (sheet : NoneOf (sheet_checks s)) where
       }
 
   balanced_leveled : (flows levels levels' : List ℤ) → edges_of s ≤ length flows → faces (sheet_map s) ≤ length levels → BalancedWithin s (atℤ flows)
-      → (answer : LevelAnswer) → GivesLevels s flows levels levels' answer → (answer ≡ Done) × LevelsFor s (atℤ flows) (atℤ levels')
-  balanced_leveled flows levels levels' long room b Done h =
+      → (answer : Result Unit Refusal) → GivesLevels s flows levels levels' answer → (answer ≡ Ok tt) × LevelsFor s (atℤ flows) (atℤ levels')
+  balanced_leveled flows levels levels' long room b (Ok done) h =
       (refl, levels_front (atℤ flows) h.1.0 (atℤ levels') (filled_front (pos 0) (faces (sheet_map s)) h.1.0 levels levels' h.1.2) h.1.1)
-  balanced_leveled flows levels levels' long room b (level.Refused k p) h =
-      absurd (first_none (levels_checks s flows levels) k p h.0 (levels_none s flows levels sheet (balanced_none (sheet_drawing s) flows levels long room
+  balanced_leveled flows levels levels' long room b (Err r) h =
+      absurd (first_none (levels_checks s flows levels) r.number r.place h.0
+      (levels_none s flows levels sheet (balanced_none (sheet_drawing s) flows levels long room
       (within_none (sheet_map s) (capacity_of s) (atℤ flows) b.1) (circulation_none (sheet_map s) (atℤ flows) b.0))))
 
 -- ── all ──

@@ -6,10 +6,12 @@ use Prim.Native.Nat.{ℕ, ◌*◌, ◌≤◌, ◌<◌}
 use native.Mathlib.Omega.{arith}
 use lib.ListN.{length}
 use lib.IntN.{ℤ, pos, ◌-ℤ◌}
+use Rattle.std.specs.Prelude.{Result, Ok, Err}
 use Rattle.integers.specs.inner.Limited.{Limited}
 use Rattle.integers.proofs.Omega.{atoms₁, parts, from_less, from_at_most}
 use Rattle.refusals.specs.Order.{NoneOf}
 use Rattle.refusals.proofs.Order.{none_append, append_none, first_none, neither}
+use Rattle.refusals.specs.declared.Refusal.{Refusal}
 use Rattle.maps.specs.Map.{Map, darts}
 use Rattle.maps.specs.Face.{faces, left, right}
 use Rattle.maps.specs.Potential.{difference}
@@ -36,8 +38,6 @@ use Rattle.levels.specs.LevelsOf.{balanced_checks}
 use Rattle.levels.specs.SettingsOf.{leveled_checks, from_levels}
 use Rattle.levels.proofs.Given.{balanced_parts, balanced_none, leveled_parts, leveled_whole}
 use Rattle.flows.specs.ZeroFace.{ZeroFace}
-use Rattle.levels.specs.declared.LevelAnswer.{LevelAnswer}
-use Rattle.levels.specs.declared.LevelAnswer.TheVariants.{Done, Refused}
 use Rattle.analyser.specs.Statements.{BalancedWithin, LevelsFor}
 use Rattle.analyser.proofs.Accepted.{levels_none}
 use Rattle.analyser.proofs.SheetPlane.{plane, outer_in, zero_in, capacity_small, levels_unique}
@@ -70,9 +70,9 @@ module _ (s : List ℕ) where
   settings_whole levels flows h b = none_append (sheet_checks s) _ h b
 
   -- ── settings to levels to settings ──
-  pub settings_again : (flows levels levels' : List ℤ) → GivesLevels s flows levels levels' Done
-      → (flows₀ flows₁ : List ℤ) → edges_of s ≤ length flows₀ → (a : LevelAnswer) → GivesSettings s levels' flows₀ flows₁ a
-      → (a ≡ Done) × ((e : ℕ) → e < edges_of s → atℤ flows₁ e ≡ atℤ flows e)
+  pub settings_again : (flows levels levels' : List ℤ) → GivesLevels s flows levels levels' (Ok tt)
+      → (flows₀ flows₁ : List ℤ) → edges_of s ≤ length flows₀ → (a : Result Unit Refusal) → GivesSettings s levels' flows₀ flows₁ a
+      → (a ≡ Ok tt) × ((e : ℕ) → e < edges_of s → atℤ flows₁ e ≡ atℤ flows e)
   settings_again flows levels levels' given flows₀ flows₁ room a back = finish a back
     where
       sheet : NoneOf (sheet_checks s)
@@ -122,12 +122,12 @@ module _ (s : List ℕ) where
           (within_none 𝓜 (capacity_of s) (from_levels 𝓜 (atℤ levels'))
           (within_agrees 𝓜 (atℤ flows) (from_levels 𝓜 (atℤ levels')) (λ e l. sym (same e l)) (capacity_of s) within)))
 
-      finish : (a : LevelAnswer) → GivesSettings s levels' flows₀ flows₁ a → (a ≡ Done) × ((e : ℕ) → e < edges_of s → atℤ flows₁ e ≡ atℤ flows e)
-      finish Done h = (refl, λ e l. filled_front (pos 0) (edges_of s) (from_levels 𝓜 (atℤ levels')) flows₀ flows₁ h.1 e l ∙ same e l)
-      finish (Refused k q) h = absurd (first_none (settings_checks s levels' flows₀) k q h.0 whole)
+      finish : (a : Result Unit Refusal) → GivesSettings s levels' flows₀ flows₁ a → (a ≡ Ok tt) × ((e : ℕ) → e < edges_of s → atℤ flows₁ e ≡ atℤ flows e)
+      finish (Ok done) h = (refl, λ e l. filled_front (pos 0) (edges_of s) (from_levels 𝓜 (atℤ levels')) flows₀ flows₁ h.1 e l ∙ same e l)
+      finish (Err r) h = absurd (first_none (settings_checks s levels' flows₀) r.number r.place h.0 whole)
 
   -- ── levels to settings to levels ──
-  module _ (levels flows flows' : List ℤ) (given : GivesSettings s levels flows flows' Done) where
+  module _ (levels flows flows' : List ℤ) (given : GivesSettings s levels flows flows' (Ok tt)) where
     sheet : NoneOf (sheet_checks s)
     sheet = (settings_parts levels flows given.0).0
 
@@ -161,15 +161,15 @@ module _ (s : List ℕ) where
           record { differences = differ; rooted = p.3 },
         )
 
-    pub levels_again : (levels₀ levels₁ : List ℤ) → F ≤ length levels₀ → (a : LevelAnswer) → GivesLevels s flows' levels₀ levels₁ a
-        → (a ≡ Done) × ((f : ℕ) → f < F → atℤ levels₁ f ≡ atℤ levels f)
-    levels_again levels₀ levels₁ room Done h = (
+    pub levels_again : (levels₀ levels₁ : List ℤ) → F ≤ length levels₀ → (a : Result Unit Refusal) → GivesLevels s flows' levels₀ levels₁ a
+        → (a ≡ Ok tt) × ((f : ℕ) → f < F → atℤ levels₁ f ≡ atℤ levels f)
+    levels_again levels₀ levels₁ room (Ok done) h = (
       refl,
       λ f l.
           filled_front (pos 0) F h.1.0 levels₀ levels₁ h.1.2 f l
           ∙ levels_unique s sheet (atℤ flows') h.1.0 (atℤ levels) h.1.1 leveled_balanced.1 f l,
     )
-    levels_again levels₀ levels₁ room (Refused k q) h = absurd (first_none (levels_checks s flows' levels₀) k q h.0 whole)
+    levels_again levels₀ levels₁ room (Err r) h = absurd (first_none (levels_checks s flows' levels₀) r.number r.place h.0 whole)
       where
         long : edges_of s ≤ length flows'
         long = omega (arith, filled_length (edges_of s) x flows flows' given.1 p.0, p.0)

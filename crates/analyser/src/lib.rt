@@ -24,13 +24,11 @@ ghost use Rattle.analyser.specs.Counts.{GivesCounts};
 
 use arrays::{Demand, Terminals};
 use capture::After;
-use dimacs::DimacsAnswer;
-use levels::LevelAnswer;
 use pages::{Listed, Page, Question};
-use questions::{LargestAnswer, MarkAnswer, SolveAnswer};
-use raising::RaiseAnswer;
-use ranges::RangeAnswer;
-use totals::TotalsAnswer;
+use questions::Solution;
+use ranges::Range;
+use refusals::Refusal;
+use sheets::Counts;
 
 // Solve: the highest flow of a value from source to sink, or a set of nodes that proves that there is none.
 // The flows are written if it can, the set if it cannot.
@@ -41,7 +39,7 @@ pub fn solve(
     value: i32,
     flows: &mut [i32],
     set: &mut [u64],
-) -> SolveAnswer
+) -> Result<Solution, Refusal>
     ensures { Solves sheet.now source sink value flows.old flows.new set.old set.new result
         × SetNamed (sheet_drawing sheet.now) source sink value set.new result }
 {
@@ -50,10 +48,7 @@ pub fn solve(
     let mut grouped = [0u16; 1024];
     let mut starts = [0u16; 1024];
     let net = sheets::open_walked(sheet, &mut order, &mut from, &mut grouped, &mut starts);
-    if !net.accepted {
-        return SolveAnswer::Refused(net.refusal, net.place);
-    }
-    let sizes = net.sizes;
+    let sizes = net.opened?;
     let demand = Demand {
         source: arrays::wide(source),
         sink: arrays::wide(sink),
@@ -83,7 +78,7 @@ pub fn largest(
     sink: u16,
     flows: &mut [i32],
     set: &mut [u64],
-) -> LargestAnswer
+) -> Result<Option<i32>, Refusal>
     ensures { FindsLargest sheet.now source sink flows.old flows.new set.old set.new result }
 {
     let mut order = [0u16; 1024];
@@ -91,10 +86,7 @@ pub fn largest(
     let mut grouped = [0u16; 1024];
     let mut starts = [0u16; 1024];
     let net = sheets::open_walked(sheet, &mut order, &mut from, &mut grouped, &mut starts);
-    if !net.accepted {
-        return LargestAnswer::Refused(net.refusal, net.place);
-    }
-    let sizes = net.sizes;
+    let sizes = net.opened?;
     let terminals = Terminals {
         source: arrays::wide(source),
         sink: arrays::wide(sink),
@@ -126,7 +118,7 @@ pub fn least_and_largest(
     below: &mut [u64],
     high: &mut [i32],
     above: &mut [u64],
-) -> RangeAnswer
+) -> Result<Option<Range>, Refusal>
     ensures { FindsRange sheet.now source sink
         low.old low.new below.old below.new
         high.old high.new above.old above.new result }
@@ -136,10 +128,7 @@ pub fn least_and_largest(
     let mut grouped = [0u16; 1024];
     let mut starts = [0u16; 1024];
     let net = sheets::open_walked(sheet, &mut order, &mut from, &mut grouped, &mut starts);
-    if !net.accepted {
-        return RangeAnswer::Refused(net.refusal, net.place);
-    }
-    let sizes = net.sizes;
+    let sizes = net.opened?;
     let terminals = Terminals {
         source: arrays::wide(source),
         sink: arrays::wide(sink),
@@ -172,7 +161,7 @@ pub fn raise_limit(
     edge: u16,
     flows: &mut [i32],
     set: &mut [u64],
-) -> RaiseAnswer
+) -> Result<Option<i32>, Refusal>
     ensures { RaisesLimit sheet.now source sink value edge flows.old flows.new set.old set.new result }
 {
     let mut order = [0u16; 1024];
@@ -180,10 +169,7 @@ pub fn raise_limit(
     let mut grouped = [0u16; 1024];
     let mut starts = [0u16; 1024];
     let net = sheets::open_walked(sheet, &mut order, &mut from, &mut grouped, &mut starts);
-    if !net.accepted {
-        return RaiseAnswer::Refused(net.refusal, net.place);
-    }
-    let sizes = net.sizes;
+    let sizes = net.opened?;
     let demand = Demand {
         source: arrays::wide(source),
         sink: arrays::wide(sink),
@@ -219,7 +205,7 @@ pub fn largest_after(
     limits: &mut [i32],
     flows: &mut [i32],
     set: &mut [u64],
-) -> LargestAnswer
+) -> Result<Option<i32>, Refusal>
     ensures { FindsAfter sheet.now capture.now window named source sink
         limits.old limits.new flows.old flows.new set.old set.new result }
 {
@@ -228,10 +214,7 @@ pub fn largest_after(
     let mut grouped = [0u16; 1024];
     let mut starts = [0u16; 1024];
     let net = sheets::open_walked(sheet, &mut order, &mut from, &mut grouped, &mut starts);
-    if !net.accepted {
-        return LargestAnswer::Refused(net.refusal, net.place);
-    }
-    let sizes = net.sizes;
+    let sizes = net.opened?;
     let after = After {
         window: window,
         named: named,
@@ -258,7 +241,12 @@ pub fn largest_after(
 }
 
 // A list of questions on one sheet, which is opened once: each is answered as Solve answers it alone, with its own stretch of each buffer.
-pub fn page_of(sheet: &[u8], list: Listed, flows: &mut [i32], sets: &mut [u64]) -> Page
+pub fn page_of(
+    sheet: &[u8],
+    list: Listed,
+    flows: &mut [i32],
+    sets: &mut [u64],
+) -> Result<Page, Refusal>
     ensures { AnswersPage sheet.now list.count (question_at list.questions)
         flows.old flows.new sets.old sets.new result
         × PageNamed sheet.now list.count (question_at list.questions) sets.new result }
@@ -268,10 +256,7 @@ pub fn page_of(sheet: &[u8], list: Listed, flows: &mut [i32], sets: &mut [u64]) 
     let mut grouped = [0u16; 1024];
     let mut starts = [0u16; 1024];
     let net = sheets::open_walked(sheet, &mut order, &mut from, &mut grouped, &mut starts);
-    if !net.accepted {
-        return pages::refused_page(net.refusal, net.place);
-    }
-    let sizes = net.sizes;
+    let sizes = net.opened?;
     pages::answer_list(
         &net.tails,
         &net.rotations,
@@ -289,7 +274,12 @@ pub fn page_of(sheet: &[u8], list: Listed, flows: &mut [i32], sets: &mut [u64]) 
 }
 
 // Questions by the page: a lent slice of questions on one sheet, the settings of question i from i times the edges on, its set from i times the words on.
-pub fn page(sheet: &[u8], questions: &[Question], flows: &mut [i32], sets: &mut [u64]) -> Page
+pub fn page(
+    sheet: &[u8],
+    questions: &[Question],
+    flows: &mut [i32],
+    sets: &mut [u64],
+) -> Result<Page, Refusal>
     ensures { AnswersPage sheet.now (length questions.now) (question_at questions.now)
         flows.old flows.new sets.old sets.new result
         × PageNamed sheet.now (length questions.now) (question_at questions.now) sets.new result }
@@ -299,14 +289,11 @@ pub fn page(sheet: &[u8], questions: &[Question], flows: &mut [i32], sets: &mut 
 }
 
 // Mark: the value that given flows of the edges carry, if they carry any.
-pub fn mark(sheet: &[u8], source: u16, sink: u16, flows: &[i32]) -> MarkAnswer
+pub fn mark(sheet: &[u8], source: u16, sink: u16, flows: &[i32]) -> Result<i32, Refusal>
     ensures { Marks sheet.now source sink flows.now result }
 {
     let net = sheets::open(sheet);
-    if !net.accepted {
-        return MarkAnswer::Refused(net.refusal, net.place);
-    }
-    let sizes = net.sizes;
+    let sizes = net.opened?;
     let terminals = Terminals {
         source: arrays::wide(source),
         sink: arrays::wide(sink),
@@ -323,14 +310,11 @@ pub fn mark(sheet: &[u8], source: u16, sink: u16, flows: &[i32]) -> MarkAnswer
 
 // Levels from settings: the potentials of the faces that balanced flows of the edges have, with the face of the outer dart at 0.
 // Nothing is written before the last check.
-pub fn levels_from_settings(sheet: &[u8], flows: &[i32], levels: &mut [i32]) -> LevelAnswer
+pub fn levels_from_settings(sheet: &[u8], flows: &[i32], levels: &mut [i32]) -> Result<(), Refusal>
     ensures { GivesLevels sheet.now flows.now levels.old levels.new result }
 {
     let net = sheets::open(sheet);
-    if !net.accepted {
-        return LevelAnswer::Refused(net.refusal, net.place);
-    }
-    let sizes = net.sizes;
+    let sizes = net.opened?;
     levels::levels_of(
         &net.tails,
         &net.rotations,
@@ -347,14 +331,11 @@ pub fn levels_from_settings(sheet: &[u8], flows: &[i32], levels: &mut [i32]) -> 
 
 // Settings from levels: the flows that face levels give, if no level is refused and every flow keeps within its capacities.
 // Flows are written only after every check.
-pub fn settings_from_levels(sheet: &[u8], levels: &[i32], flows: &mut [i32]) -> LevelAnswer
+pub fn settings_from_levels(sheet: &[u8], levels: &[i32], flows: &mut [i32]) -> Result<(), Refusal>
     ensures { GivesSettings sheet.now levels.now flows.old flows.new result }
 {
     let net = sheets::open(sheet);
-    if !net.accepted {
-        return LevelAnswer::Refused(net.refusal, net.place);
-    }
-    let sizes = net.sizes;
+    let sizes = net.opened?;
     levels::settings_of(
         &net.tails,
         &net.rotations,
@@ -371,14 +352,11 @@ pub fn settings_from_levels(sheet: &[u8], levels: &[i32], flows: &mut [i32]) -> 
 
 // Totals by node: the outward total of a set of nodes, with the subtotal of each node of the set, nodes rising, in front of `subtotals`.
 // Nothing is written before the last check.
-pub fn totals(sheet: &[u8], set: &[u64], subtotals: &mut [i32]) -> TotalsAnswer
+pub fn totals(sheet: &[u8], set: &[u64], subtotals: &mut [i32]) -> Result<i32, Refusal>
     ensures { GivesTotals sheet.now set.now subtotals.old subtotals.new result }
 {
     let net = sheets::open(sheet);
-    if !net.accepted {
-        return TotalsAnswer::Refused(net.refusal, net.place);
-    }
-    let sizes = net.sizes;
+    let sizes = net.opened?;
     totals::totals_of(
         &net.tails,
         &net.rotations,
@@ -392,14 +370,11 @@ pub fn totals(sheet: &[u8], set: &[u64], subtotals: &mut [i32]) -> TotalsAnswer
 
 // The sheet as a DIMACS maximum flow problem from source to sink, written in front of the output; the number of its bytes.
 // Nothing is written before the last check.
-pub fn write_dimacs(sheet: &[u8], source: u16, sink: u16, out: &mut [u8]) -> DimacsAnswer
+pub fn write_dimacs(sheet: &[u8], source: u16, sink: u16, out: &mut [u8]) -> Result<usize, Refusal>
     ensures { WritesDimacs sheet.now source sink out.old out.new result }
 {
     let net = sheets::open(sheet);
-    if !net.accepted {
-        return DimacsAnswer::Refused(net.refusal, net.place);
-    }
-    let sizes = net.sizes;
+    let sizes = net.opened?;
     dimacs::write(
         &net.tails,
         &net.rotations,
@@ -413,25 +388,17 @@ pub fn write_dimacs(sheet: &[u8], source: u16, sink: u16, out: &mut [u8]) -> Dim
     )
 }
 
-// What Counts answers: how many nodes and edges a sheet has, or the number of a refusal and its place.
-#[derive(Clone, Copy)]
-pub enum CountsAnswer {
-    Counts(u16, u16),
-    Refused(u8, u16),
-}
-
 // Counts: both counts of a sheet, for a caller that lends slices of these lengths and has no use for Read's. Totals by node of no node makes the sheet checks:
 // with room for any set it refuses nothing else, and the record that it holds lies in its own frame, not in the caller's.
-pub fn counts(sheet: &[u8]) -> CountsAnswer
+pub fn counts(sheet: &[u8]) -> Result<Counts, Refusal>
     ensures { GivesCounts sheet.now result }
 {
     let set = [0u64; 9];
     let mut subtotals = [0i32; 513];
-    let answer = totals(sheet, &set, &mut subtotals);
-    if let TotalsAnswer::Refused(k, p) = answer {
-        return CountsAnswer::Refused(k, p);
-    }
-    let nodes = records::nodes_of(sheet);
-    let edges = records::edges_of(sheet);
-    CountsAnswer::Counts(arrays::narrow(nodes), arrays::narrow(edges))
+    totals(sheet, &set, &mut subtotals)?;
+    Ok(Counts {
+        nodes: arrays::narrow(records::nodes_of(sheet)),
+        edges: arrays::narrow(records::edges_of(sheet)),
+        outer: arrays::narrow(records::outer_of(sheet)),
+    })
 }

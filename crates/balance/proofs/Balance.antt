@@ -5,7 +5,8 @@ use Prim.Native.Nat.{ℕ, ◌≤◌, ◌<◌}
 use native.Mathlib.Omega.{arith}
 use lib.IntN.{ℤ, pos, ℤ_discrete}
 use Rattle.refusals.specs.Order.{NoneOf, Judged}
-use Rattle.refusals.specs.declared.Verdict.{Verdict}
+use Rattle.std.specs.Prelude.{Result}
+use Rattle.refusals.specs.declared.Refusal.{Refusal}
 use Rattle.refusals.proofs.Order.{neither}
 use Rattle.refusals.proofs.Same.{Same, same_in_turn, judged_same}
 use Rattle.maps.specs.Map.{Map}
@@ -62,7 +63,7 @@ module _ (𝓜 : Map) (x : ℕ → ℤ) where
   -- ── what `check_balance` judges, where its sums are the net flows ──
   module _ (nets : ℕ → ℤ) (are : (v : ℕ) → v < 𝓜.nodes → nets v ≡ net 𝓜 (on_darts x) v) where
     -- the ends a and b are excused
-    pub judged_ends : (a b : ℕ) (r : Verdict) → Judged (off_checks 𝓜.nodes a b nets) r → Judged (balance_checks 𝓜 (EndOf a b) x) r
+    pub judged_ends : (a b : ℕ) (r : Result Unit Refusal) → Judged (off_checks 𝓜.nodes a b nets) r → Judged (balance_checks 𝓜 (EndOf a b) x) r
     unfolding off_checks balance_checks Same
     judged_ends a b r h =
         judged_same _ _ r (same_in_turn 𝓜.nodes _ _ (λ v l. (
@@ -74,7 +75,7 @@ module _ (𝓜 : Map) (x : ℕ → ℤ) where
         ))) h
 
     -- a and b are no nodes: no node is excused
-    pub judged_all : (a b : ℕ) (r : Verdict) → 𝓜.nodes ≤ a → 𝓜.nodes ≤ b
+    pub judged_all : (a b : ℕ) (r : Result Unit Refusal) → 𝓜.nodes ≤ a → 𝓜.nodes ≤ b
         → Judged (off_checks 𝓜.nodes a b nets) r → Judged (balance_checks 𝓜 NoNode x) r
     unfolding off_checks balance_checks Same
     judged_all a b r la lb h =

@@ -7,7 +7,7 @@ use lib.IntN.{pos, negsuc, pos-ne-negsuc}
 use lib.Signed.{lt_z_yes}
 use Rattle.integers.specs.Sum.{sum}
 use Rattle.refusals.specs.Order.{FirstOf, in_turn, Judged}
-use Rattle.refusals.specs.declared.Verdict.TheVariants.{Refused}
+use Rattle.refusals.specs.Refused.{refused}
 use Rattle.refusals.proofs.Order.{neither}
 use Rattle.flows.specs.Settings.{on_darts}
 use Rattle.flows.specs.Check.{within_checks}
@@ -16,7 +16,7 @@ use Rattle.balance.specs.inner.NetUpTo.{net_up_to}
 use Rattle.balance.specs.inner.Check.{off_checks}
 
 -- a flow of -2^31 on an edge of capacities 1,000,000
-least_refused : Judged (within_checks 1 (atℤ (pos 1000000 ∷ pos 1000000 ∷ [])) (atℤ (negsuc 2147483647 ∷ []))) (Refused 17 0)
+least_refused : Judged (within_checks 1 (atℤ (pos 1000000 ∷ pos 1000000 ∷ [])) (atℤ (negsuc 2147483647 ∷ []))) (refused 17 0)
 unfolding within_checks in_turn FirstOf
 least_refused = inl (inr (lt_z_yes tt), refl, refl)
 
@@ -26,6 +26,6 @@ unfolding net_up_to sum on_darts
 loop-cancels = refl
 
 -- nodes 0 and 2 are excused, nodes 1 and 3 are off balance: node 1 is named
-lowest_named : Judged (off_checks 4 2 0 (atℤ (pos 7 ∷ negsuc 0 ∷ pos 1 ∷ pos 2 ∷ []))) (Refused 18 1)
+lowest_named : Judged (off_checks 4 2 0 (atℤ (pos 7 ∷ negsuc 0 ∷ pos 1 ∷ pos 2 ∷ []))) (refused 18 1)
 unfolding off_checks in_turn FirstOf
 lowest_named = inr ((λ p. p.0 (inr refl)), inl ((neither (λ e. omega arith) (λ e. omega arith), (λ e. pos-ne-negsuc 0 0 (sym e))), refl, refl))

@@ -1,20 +1,15 @@
 -- The net flows edge by edge: none at first, an edge's flow out of its tail and into its head, every sum within 32 bits, and at the end `net` of the map.
-use mathlib.Core.Path.{◌≡◌, refl, sym, ◌∙◌, ap, ap₂}
+use mathlib.Core.Path.{◌≡◌, refl, ◌∙◌, ap, ap₂}
 use mathlib.Core.Bool.{Bool}
-use mathlib.Core.List.{List}
 use Prim.Native.Nat.{ℕ, suc, ◌+◌, ◌*◌, ◌≤◌, ◌<◌}
 use native.Mathlib.Omega.{arith}
-use native.Mathlib.Decide.{ℕ_discrete}
 use lib.Dec.{eqb}
-use lib.ListN.{length, set}
-use lib.Seq.{get_or-set_same, get_or-set_other}
-use lib.IntN.{ℤ, pos, neg_ℤ, ◌+ℤ◌, ◌-ℤ◌, +ℤ_idr}
+use lib.IntN.{ℤ, pos, neg_ℤ, ◌+ℤ◌, ◌-ℤ◌}
 use mir.Syntax.{w32}
 use mir.Val.{SFits}
 use Rattle.integers.specs.Sum.{Integers, sum, when}
 use Rattle.integers.specs.inner.Limited.{Limited}
 use Rattle.integers.proofs.Limits.{limited_plus, limited_minus, limited_neg, limited_when, limited_sum}
-use Rattle.integers.proofs.Tests.{eqb_true, eqb_false}
 use Rattle.signed.proofs.Limits.{limited_fits}
 use Rattle.integers.proofs.Sums.{sum_zero, sum_suc}
 use Rattle.maps.specs.Map.{Map}
@@ -22,29 +17,13 @@ use Rattle.maps.specs.Flow.{net}
 use Rattle.maps.proofs.Darts.{by_edge}
 use Rattle.flows.specs.Settings.{on_darts}
 use Rattle.flows.proofs.OnDarts.{on_darts_even, on_darts_odd}
-use Rattle.arrays.specs.At.{at, atℤ}
-use Rattle.arrays.specs.Maps.{map_of}
 use Rattle.balance.specs.inner.SmallFlows.{SmallFlows}
 use Rattle.balance.specs.inner.NetUpTo.{net_up_to}
 
--- the sums that `fill_nets` leaves are the net flows of the map
-pub nets_are_net : (nodes edges : ℕ) (tails rotations : List ℕ) (x : ℕ → ℤ) (v : ℕ)
-    → net_up_to (at tails) x (2 * edges) v ≡ net (map_of nodes edges tails rotations) (on_darts x) v
-unfolding net_up_to net
-nets_are_net nodes edges tails rotations x v = refl
-
--- the same for any map
+-- the sums that `fill_nets` leaves are the net flows of any map with these tails
 pub up_to_all : (𝓜 : Map) (x : ℕ → ℤ) (v : ℕ) → net_up_to 𝓜.tail x (2 * 𝓜.edges) v ≡ net 𝓜 (on_darts x) v
 unfolding net_up_to net
 up_to_all 𝓜 x v = refl
-
--- one store: x is added to the element at v
-pub set_added : (l : List ℤ) (v : ℕ) (x y : ℤ) → v < length l → y ≡ atℤ l v +ℤ x → (u : ℕ) → atℤ (set l v y) u ≡ atℤ l u +ℤ when (eqb u v) x
-set_added l v x y h e u = go (ℕ_discrete u v)
-  where
-    go : Dec (u ≡ v) → atℤ (set l v y) u ≡ atℤ l u +ℤ when (eqb u v) x
-    go (yes q) = rw (eqb_true u v q, q) (get_or-set_same l v y (pos 0) h ∙ e)
-    go (no q) = rw (eqb_false u v q) (get_or-set_other l v u y (pos 0) q ∙ sym (+ℤ_idr (atℤ l u)))
 
 module _ (tail : ℕ → ℕ) (x : ℕ → ℤ) where
   pub net_none : (v : ℕ) → net_up_to tail x 0 v ≡ pos 0

@@ -11,7 +11,8 @@ use lib.Seq.{length-take-le, get_or-take}
 use lib.IntN.{ℤ, neg_ℤ}
 use lib.Signed.{◌<ℤ◌}
 use Rattle.refusals.specs.Order.{◌at◌when◌, Judged}
-use Rattle.refusals.specs.declared.Verdict.{Verdict}
+use Rattle.std.specs.Prelude.{Result}
+use Rattle.refusals.specs.declared.Refusal.{Refusal}
 use Rattle.refusals.proofs.Same.{Same, same_in_turn, judged_same}
 use Rattle.maps.specs.Map.{Map}
 use Rattle.maps.specs.Flow.{net}
@@ -76,10 +77,10 @@ module _ (𝓜 : Map) (flows : List ℤ) where
   pub part_net : (v : ℕ) → net 𝓜 (on_darts (atℤ (take (𝓜.edges - 0) flows))) v ≡ net 𝓜 (on_darts (atℤ flows)) v
   part_net = nets 𝓜 (atℤ (take (𝓜.edges - 0) flows)) (atℤ flows) part_flows
 
-  pub part_within : (c : ℕ → ℤ) (v : Verdict) → Judged (within_checks 𝓜.edges c (atℤ (take (𝓜.edges - 0) flows))) v
+  pub part_within : (c : ℕ → ℤ) (v : Result Unit Refusal) → Judged (within_checks 𝓜.edges c (atℤ (take (𝓜.edges - 0) flows))) v
       → Judged (within_checks 𝓜.edges c (atℤ flows)) v
   part_within c v j = judged_same _ _ v (within_same 𝓜 (atℤ (take (𝓜.edges - 0) flows)) (atℤ flows) part_flows c) j
 
-  pub part_balance : (Excused : ℕ → Type 0) (v : Verdict) → Judged (balance_checks 𝓜 Excused (atℤ (take (𝓜.edges - 0) flows))) v
+  pub part_balance : (Excused : ℕ → Type 0) (v : Result Unit Refusal) → Judged (balance_checks 𝓜 Excused (atℤ (take (𝓜.edges - 0) flows))) v
       → Judged (balance_checks 𝓜 Excused (atℤ flows)) v
   part_balance Excused v j = judged_same _ _ v (balance_same 𝓜 (atℤ (take (𝓜.edges - 0) flows)) (atℤ flows) part_flows Excused) j

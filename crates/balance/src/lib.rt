@@ -1,5 +1,5 @@
 // Judges given flows of the edges: 17, each edge's flow within its capacities; 18, the flows balanced at the nodes.
-// Of a slice of flows only the first `edges` elements are read. Sums and tests of signed numbers are functions of their own.
+// Of a slice of flows only the first `edges` elements are read.
 #![tactic(auto)]
 
 ghost use Rattle.std.specs.Prelude.{◌≡◌, ◌⊎◌, ◌≢◌, ℕ, ◌+◌, ◌*◌, ◌<◌, ◌≤◌, eqb, length, pos, neg_ℤ, ◌+ℤ◌, ◌-ℤ◌, ◌<ℤ◌};
@@ -13,13 +13,7 @@ ghost use Rattle.balance.specs.inner.SmallFlows.{SmallFlows};
 ghost use Rattle.balance.specs.inner.NetUpTo.{net_up_to};
 ghost use Rattle.balance.specs.inner.Check.{off_checks, JudgedAll};
 
-use refusals::Verdict;
-
-fn below_zero(x: i64) -> bool
-    ensures { Decides (x <ℤ pos 0) result }
-{
-    x < 0
-}
+use refusals::{Refusal, refused_at};
 
 // Whether a flow is more than its edge's forward capacity, or against the edge more than its backward capacity.
 // -x > backward is tested as x + backward < 0 at 64 bits, since -x does not fit 32 bits where x is the least i32.
@@ -29,22 +23,20 @@ pub fn exceeds(forward: i32, backward: i32, x: i32) -> bool
     if forward < x {
         return true;
     }
-    below_zero(signed::add32(x, backward))
+    signed::add32(x, backward) < 0
 }
 
 // Refusal 17: "a setting outside its channel's limits", at the lowest such edge.
-pub fn check_within(capacities: &[i32; 1024], edges: usize, flows: &[i32]) -> Verdict
+pub fn check_within(capacities: &[i32; 1024], edges: usize, flows: &[i32]) -> Result<(), Refusal>
     requires { (edges ≤ 512) × (edges ≤ length flows.now) }
     ensures { Judged (within_checks edges (atℤ capacities.now) (atℤ flows.now)) result }
 {
-    let mut e: usize = 0;
-    while e < edges {
+    for e in 0..edges {
         if exceeds(capacities[2 * e], capacities[2 * e + 1], flows[e]) {
-            return Verdict::Refused(17, arrays::narrow(e));
+            return refused_at(17, arrays::narrow(e));
         }
-        e += 1;
     }
-    Verdict::Passed
+    Ok(())
 }
 
 // Adds x at node v.
@@ -70,11 +62,9 @@ pub fn fill_nets(tails: &[u16; 1024], edges: usize, flows: &[i32], nets: &mut [i
     ensures { (length nets.new ≡ 1024)
         × ((v : ℕ) → v < 1024 → atℤ nets.new v ≡ net_up_to (at tails.now) (atℤ flows.now) (2 * edges) v) }
 {
-    let mut e: usize = 0;
-    while e < edges {
+    for e in 0..edges {
         add_at(nets, arrays::wide(tails[2 * e]), flows[e]);
         sub_at(nets, arrays::wide(tails[2 * e + 1]), flows[e]);
-        e += 1;
     }
 }
 
@@ -92,22 +82,25 @@ fn off_balance(v: usize, a: usize, b: usize, sum: i32) -> bool
 }
 
 // Refusal 18: "a node other than those two off balance", at the lowest such node. Where a and b are no nodes, none is excused.
-pub fn check_balance(nets: &[i32; 1024], nodes: usize, a: usize, b: usize) -> Verdict
+pub fn check_balance(nets: &[i32; 1024], nodes: usize, a: usize, b: usize) -> Result<(), Refusal>
     requires { nodes ≤ 1024 }
     ensures { Judged (off_checks nodes a b (atℤ nets.now)) result }
 {
-    let mut v: usize = 0;
-    while v < nodes {
+    for v in 0..nodes {
         if off_balance(v, a, b, nets[v]) {
-            return Verdict::Refused(18, arrays::narrow(v));
+            return refused_at(18, arrays::narrow(v));
         }
-        v += 1;
     }
-    Verdict::Passed
+    Ok(())
 }
 
 // Refusal 18 with no node excused: "18 for any node". The sums have their array here, so that the caller's later arrays can lie where it was.
-pub fn check_all_balanced(tails: &[u16; 1024], nodes: usize, edges: usize, flows: &[i32]) -> Verdict
+pub fn check_all_balanced(
+    tails: &[u16; 1024],
+    nodes: usize,
+    edges: usize,
+    flows: &[i32],
+) -> Result<(), Refusal>
     requires { (nodes ≤ 1024) × (edges ≤ 512) × (edges ≤ length flows.now)
         × ((d : ℕ) → d < 2 * edges → at tails.now d < 1024) × SmallFlows edges (atℤ flows.now) }
     ensures { JudgedAll nodes edges (at tails.now) (atℤ flows.now) result }

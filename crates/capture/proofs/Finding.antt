@@ -7,7 +7,8 @@ use lib.IntN.{ℤ}
 use Rattle.integers.specs.inner.Limited.{Limited}
 use Rattle.integers.proofs.Limits.{limited_more}
 use Rattle.refusals.specs.Order.{Check, NoneOf, FirstOf}
-use Rattle.refusals.specs.declared.Verdict.{Verdict}
+use Rattle.std.specs.Prelude.{Option, Some, None, Result, Ok, Err}
+use Rattle.refusals.specs.declared.Refusal.{Refusal}
 use Rattle.refusals.proofs.Order.{first_left, first_right, none_append, first_none}
 use Rattle.maps.specs.Map.{Map, darts}
 use Rattle.maps.specs.Drawing.{Drawing}
@@ -17,21 +18,12 @@ use Rattle.arrays.specs.inner.Sizes.{most_on_sheet}
 use Rattle.arrays.proofs.FillLoops.{filled_below}
 use Rattle.records.proofs.Drawing.{capacity_inside, capacities_range, capacities_pairs}
 use Rattle.questions.specs.Largest.{search_checks, LargestFound}
-use Rattle.questions.specs.declared.LargestAnswer.{LargestAnswer}
-use Rattle.questions.specs.declared.LargestAnswer.TheVariants.{Value, None, Refused}
 use Rattle.questions.proofs.After.{largest-after}
 use Rattle.capture.specs.Window.{first_of, count_of, forward_of, found}
 use Rattle.capture.specs.Capture.{taking_checks, last_checks, capture_checks, found_drawing, FoundAfter}
-use Rattle.capture.specs.inner.Taken.{LimitsTaken}
 use Rattle.capture.proofs.Limits.{taking_limits}
 use Rattle.capture.proofs.Lasting.{last_search}
 use Rattle.capture.proofs.Taking.{laid_forward}
-
--- ── numbers that were widened ──
-pub taken_widened : (edges : ℕ) (c c' : ℕ → ℤ) (b : List ℕ) {w w' n n' : ℕ} {v v' : Verdict} → w ≡ w' → n ≡ n' → v ≡ v'
-    → LimitsTaken edges c c' b w n v → LimitsTaken edges c c' b w' n' v'
-taken_widened edges c c' b {w' = w'} {n = n} {v' = v'} p q r h =
-    subst (λ m. LimitsTaken edges c c' b w' m v') q (subst (λ x. LimitsTaken edges c c' b x n v') p (subst (LimitsTaken edges c c' b _ n) r h))
 
 -- ── the drawing with capacities that have passed 6 and 7 ──
 module _ (𝓜 : Map) (c : ℕ → ℤ) (b : List ℕ) (w n : ℕ) (taken : NoneOf (taking_checks 𝓜.edges c b w n)) where
@@ -77,7 +69,7 @@ module _ (𝓓 : Drawing) (b : List ℕ) (w n source sink : ℕ) (limits flows :
           filled_below 𝓓.map.edges 𝓓.map.edges _ _ limits limits' h refl
           (λ e l. are (2 * e) ∙ laid_forward 𝓓.capacity b (first_of w n) (count_of w n) e)
 
-      pub largest_given : (limits' flows' : List ℤ) (set' : List ℕ) (r : LargestAnswer) → limits' ≡ filled 𝓓.map.edges (λ e. c' (2 * e)) limits
+      pub largest_given : (limits' flows' : List ℤ) (set' : List ℕ) (r : Result (Option ℤ) Refusal) → limits' ≡ filled 𝓓.map.edges (λ e. c' (2 * e)) limits
           → LargestFound (record { map = 𝓓.map; capacity = c'; outer = 𝓓.outer }) (search_checks 𝓓.map.nodes 𝓓.map.edges source sink flows set)
           source sink flows flows' set set' r
           → FoundAfter 𝓓 (capture_checks 𝓓 b w n source sink limits flows set) b w n source sink limits limits' flows flows' set set' r
@@ -85,17 +77,17 @@ module _ (𝓓 : Drawing) (b : List ℕ) (w n source sink : ℕ) (limits flows :
           by r (subst (λ f. LargestFound (record { map = 𝓓.map; capacity = f; outer = 𝓓.outer })
           (search_checks 𝓓.map.nodes 𝓓.map.edges source sink flows set) source sink flows flows' set set' r) (fun_ext are) g)
         where
-          by : (r : LargestAnswer)
+          by : (r : Result (Option ℤ) Refusal)
               → LargestFound (found_drawing 𝓓 b w n) (search_checks 𝓓.map.nodes 𝓓.map.edges source sink flows set) source sink flows flows' set set' r
               → FoundAfter 𝓓 (capture_checks 𝓓 b w n source sink limits flows set) b w n source sink limits limits' flows flows' set set' r
-          by (Value v) f = (given limits' h, (passed, f.1, f.2))
-          by None f = (given limits' h, (passed, f.1, f.2))
-          by (Refused k p) f =
-              absurd (first_none _ k p f.0 (last_search 𝓓.map.nodes 𝓓.map.edges source sink limits flows set last).0)
+          by (Ok (Some v)) f = (given limits' h, (passed, f.1, f.2))
+          by (Ok None) f = (given limits' h, (passed, f.1, f.2))
+          by (Err e) f =
+              absurd (first_none _ e.number e.place f.0 (last_search 𝓓.map.nodes 𝓓.map.edges source sink limits flows set last).0)
 
 -- ── checks in front: where none of them holds, the answer stands after them ──
 pub after_after : (before : List Check) → NoneOf before → (𝓓 : Drawing) (checks : List Check) (b : List ℕ) (w n source sink : ℕ)
-    (limits limits' flows flows' : List ℤ) (set set' : List ℕ) (r : LargestAnswer)
+    (limits limits' flows flows' : List ℤ) (set set' : List ℕ) (r : Result (Option ℤ) Refusal)
     → FoundAfter 𝓓 checks b w n source sink limits limits' flows flows' set set' r
     → FoundAfter 𝓓 (before ++ checks) b w n source sink limits limits' flows flows' set set' r
 after_after before passed 𝓓 checks b w n source sink limits limits' flows flows' set set' r h =

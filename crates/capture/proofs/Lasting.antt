@@ -7,8 +7,8 @@ use native.Mathlib.Omega.{arith}
 use lib.ListN.{length}
 use lib.IntN.{ℤ}
 use Rattle.refusals.specs.Order.{NoneOf, FirstOf, Judged}
-use Rattle.refusals.specs.declared.Verdict.{Verdict}
-use Rattle.refusals.specs.declared.Verdict.TheVariants.{Passed, Refused}
+use Rattle.std.specs.Prelude.{Result, Ok, Err}
+use Rattle.refusals.specs.declared.Refusal.{Refusal}
 use Rattle.refusals.proofs.Order.{first_left, first_right, none_append, append_none, neither}
 use Rattle.questions.specs.Question.{end_checks, room_checks}
 use Rattle.questions.specs.Largest.{search_checks}
@@ -24,12 +24,12 @@ module _ (nodes edges source sink : ℕ) (limits flows : List ℤ) (set : List �
     unfolding last_checks FirstOf
     limits_short l = first_right (end_checks nodes source sink) _ 16 0 two (inl (inl l, refl, refl))
 
-    pub room_judged : edges ≤ length limits → (v : Verdict) → Judged (room_checks nodes edges (length flows) (length set)) v
+    pub room_judged : edges ≤ length limits → (v : Result Unit Refusal) → Judged (room_checks nodes edges (length flows) (length set)) v
         → Judged (last_checks nodes edges source sink limits flows set) v
     unfolding last_checks FirstOf NoneOf room_checks
-    room_judged l Passed h = none_append (end_checks nodes source sink) _ two (neither (λ m. omega arith) h.0, tt)
-    room_judged l (Refused k p) (inl h) = first_right (end_checks nodes source sink) _ k p two (inl (inr h.0, h.1, h.2))
-    room_judged l (Refused k p) (inr h) = absurd h.1
+    room_judged l (Ok done) h = none_append (end_checks nodes source sink) _ two (neither (λ m. omega arith) h.0, tt)
+    room_judged l (Err r) (inl h) = first_right (end_checks nodes source sink) _ r.number r.place two (inl (inr h.0, h.1, h.2))
+    room_judged l (Err r) (inr h) = absurd h.1
 
   -- what they leave: the checks of Largest, and room for the limits
   pub last_search : NoneOf (last_checks nodes edges source sink limits flows set)

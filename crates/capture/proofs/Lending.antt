@@ -12,8 +12,8 @@ use Rattle.flows.specs.ProvingSet.{words_for}
 use Rattle.balance.proofs.Parts.{part_length, part_kept, part_written, part_filled}
 use Rattle.questions.specs.Question.{room_checks, SetWritten}
 use Rattle.questions.specs.Largest.{search_checks, LargestFound}
-use Rattle.questions.specs.declared.LargestAnswer.{LargestAnswer}
-use Rattle.questions.specs.declared.LargestAnswer.TheVariants.{Value, None, Refused}
+use Rattle.std.specs.Prelude.{Option, Some, None, Result, Ok, Err}
+use Rattle.refusals.specs.declared.Refusal.{Refusal}
 use Rattle.questions.proofs.Asked.{room_flows, sought}
 use Rattle.questions.proofs.Finding.{largest_none}
 
@@ -45,19 +45,19 @@ module _ (𝓓 : Drawing) (source sink : ℕ) (flows : List ℤ) (set : List ℕ
         largest_none 𝓓.map.nodes 𝓓.map.edges source sink (take (𝓓.map.edges - 0) flows) (take (w - 0) set) ends
         (neither (λ l. omega (arith, a, l)) (λ l. omega (arith, b, many, l)), tt)
 
-    pub largest_back : (y : List ℤ) (z : List ℕ) (r : LargestAnswer)
+    pub largest_back : (y : List ℤ) (z : List ℕ) (r : Result (Option ℤ) Refusal)
         → LargestFound 𝓓 (search_checks 𝓓.map.nodes 𝓓.map.edges source sink (take (𝓓.map.edges - 0) flows) (take (w - 0) set))
         source sink (take (𝓓.map.edges - 0) flows) y (take (w - 0) set) z r
         → LargestFound 𝓓 (search_checks 𝓓.map.nodes 𝓓.map.edges source sink flows set)
         source sink flows (y ++ drop (𝓓.map.edges - 0) flows) set (z ++ drop (w - 0) set) r
-    largest_back y z (Value v) h = (
+    largest_back y z (Ok (Some v)) h = (
       passed,
       (h.1.0, h.1.1, part_filled 𝓓.map.edges flows h.1.0 y h.1.2),
       (h.2.0, set_back 𝓓.map.nodes w h.2.0 set z many h.2.1, h.2.2),
     )
-    largest_back y z None h = (
+    largest_back y z (Ok None) h = (
       passed,
       part_kept 𝓓.map.edges flows y h.1,
       (h.2.0, set_back 𝓓.map.nodes w h.2.0 set z many h.2.1, h.2.2),
     )
-    largest_back y z (Refused k p) h = absurd (first_none _ k p h.0 part_passed)
+    largest_back y z (Err r) h = absurd (first_none _ r.number r.place h.0 part_passed)

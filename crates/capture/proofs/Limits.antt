@@ -7,8 +7,8 @@ use native.Mathlib.Omega.{arith}
 use lib.ListN.{length}
 use lib.IntN.{ℤ}
 use Rattle.refusals.specs.Order.{NoneOf, FirstOf, Judged}
-use Rattle.refusals.specs.declared.Verdict.{Verdict}
-use Rattle.refusals.specs.declared.Verdict.TheVariants.{Passed, Refused}
+use Rattle.std.specs.Prelude.{Result, Ok, Err}
+use Rattle.refusals.specs.declared.Refusal.{Refusal}
 use Rattle.refusals.proofs.Order.{first_left, first_right, none_append, append_none, in-turn-none}
 use Rattle.records.specs.Check.{capacity_checks}
 use Rattle.capture.specs.Entry.{entry_checks, begun}
@@ -33,27 +33,28 @@ unfolding records_checks
 window_passed edges b n h l i m = in-turn-none (begun b) (entry_checks edges b) h i (begins (length b) i (omega (arith, l, m)))
 
 module _ (edges : ℕ) (c c' : ℕ → ℤ) (b : List ℕ) (w n : ℕ) where
-  pub window_refused : (k p : ℕ) → FirstOf (window_checks b w n) k p → LimitsTaken edges c c' b w n (Refused k p)
+  pub window_refused : (r : Refusal) → FirstOf (window_checks b w n) r.number r.place → LimitsTaken edges c c' b w n (Err r)
   unfolding taking_checks
-  window_refused k p h = first_left (window_checks b w n) _ k p h
+  window_refused r h = first_left (window_checks b w n) _ r.number r.place h
 
   module _ (ranged : NoneOf (window_checks b w n)) where
-    pub records_refused : (k p : ℕ) → FirstOf (records_checks edges b) k p → LimitsTaken edges c c' b w n (Refused k p)
+    pub records_refused : (r : Refusal) → FirstOf (records_checks edges b) r.number r.place → LimitsTaken edges c c' b w n (Err r)
     unfolding taking_checks
-    records_refused k p h = first_right (window_checks b w n) _ k p ranged (first_left (records_checks edges b) _ k p h)
+    records_refused r h = first_right (window_checks b w n) _ r.number r.place ranged (first_left (records_checks edges b) _ r.number r.place h)
 
     -- the capacities hold what the window's records leave, and are judged
     pub limits_judged : NoneOf (records_checks edges b) → (first count : ℕ) → first ≡ first_of w n → count ≡ (n + 1) - first
-        → ((d : ℕ) → c' d ≡ laid c b first count d) → (v : Verdict) → Judged (limits_checks edges c') v → LimitsTaken edges c c' b w n v
+        → ((d : ℕ) → c' d ≡ laid c b first count d) → (v : Result Unit Refusal) → Judged (limits_checks edges c') v → LimitsTaken edges c c' b w n v
     unfolding taking_checks
     limits_judged passed first count begin many are v h = by v (subst (λ f. Judged (limits_checks edges f) v) (fun_ext same) h)
       where
         same : (d : ℕ) → c' d ≡ found c b w n d
         same d = are d ∙ ap (λ k. laid c b first k d) (many ∙ ap (λ f. (n + 1) - f) begin) ∙ ap (λ f. laid c b f (count_of w n) d) begin
 
-        by : (v : Verdict) → Judged (limits_checks edges (found c b w n)) v → LimitsTaken edges c c' b w n v
-        by Passed g = (none_append (window_checks b w n) _ ranged (none_append (records_checks edges b) _ passed g), same)
-        by (Refused k p) g = first_right (window_checks b w n) _ k p ranged (first_right (records_checks edges b) _ k p passed g)
+        by : (v : Result Unit Refusal) → Judged (limits_checks edges (found c b w n)) v → LimitsTaken edges c c' b w n v
+        by (Ok done) g = (none_append (window_checks b w n) _ ranged (none_append (records_checks edges b) _ passed g), same)
+        by (Err r) g =
+            first_right (window_checks b w n) _ r.number r.place ranged (first_right (records_checks edges b) _ r.number r.place passed g)
 
 -- the capacities found have passed 6 and 7
 pub taking_limits : (edges : ℕ) (c : ℕ → ℤ) (b : List ℕ) (w n : ℕ) → NoneOf (taking_checks edges c b w n)

@@ -1,7 +1,7 @@
 -- The records of a window taken one by one: each store keeps what the marks and the capacities say of the records taken.
 use mathlib.Core.Path.{◌≡◌, refl, sym, ◌∙◌, ap}
 use mathlib.Core.Logic.{◌≢◌}
-use mathlib.Core.Bool.{cond, true, false}
+use mathlib.Core.Bool.{cond}
 use mathlib.Core.List.{List}
 use Prim.Native.Nat.{ℕ, ◌+◌, ◌*◌, ◌/◌, ◌%◌, ◌<◌}
 use native.Mathlib.Omega.{arith}
@@ -11,24 +11,12 @@ use lib.Dec.{eqb}
 use lib.ListN.{length, set, replicate, length-set, length-replicate}
 use lib.Seq.{get_or-set_same, get_or-set_other}
 use lib.IntN.{ℤ, pos}
-use lib.Signed.{lt_z}
 use Rattle.integers.proofs.Tests.{eqb_true, eqb_false}
 use Rattle.arrays.specs.At.{at, atℤ}
 use Rattle.arrays.proofs.FillLoops.{same_everywhere}
 use Rattle.capture.specs.Entry.{channel_of, limit_of}
 use Rattle.capture.specs.Window.{Seen, unseen, least, with_limit, seen_in, or_else, laid}
 use Rattle.capture.specs.inner.Taken.{mark, lowered, Taken}
-
--- ── the least so far, by the tests that are made ──
-module _ (m : ℕ) (present limit : ℤ) where
-  pub lowered_first : m ≡ 0 → limit ≡ lowered m present limit
-  lowered_first e = rw (eqb_true m 0 e) refl
-
-  pub lowered_less : m ≢ 0 → lt_z limit present ≡ true → limit ≡ lowered m present limit
-  lowered_less e l = rw (eqb_false m 0 e, l) refl
-
-  pub lowered_kept : m ≢ 0 → lt_z limit present ≡ false → present ≡ lowered m present limit
-  lowered_kept e l = rw (eqb_false m 0 e, l) refl
 
 -- ── one record more ──
 module _ (b : List ℕ) (e first k : ℕ) where

@@ -2,16 +2,15 @@
 -- covers too, and Largest on them; the limits are written where Largest is none as well. After the sheet checks stands 26: W out of range, or the named record,
 -- counted from 0, is not below the capture's bytes div 11. Then every record of the capture in turn: 2, 1 for a body cut short, 25, and 27 for a tick that goes
 -- back. The limits found are then checked by 6 and 7 channel by channel, and Largest's 13, 14 and 16 come last."
-use Rattle.std.specs.Prelude.{ℕ, ◌+◌, ◌*◌, ◌/◌, ◌≤◌, ◌<◌, ◌≡◌, ◌⊎◌, List, [], ◌∷◌, ◌++◌, length, ℤ}
+use Rattle.std.specs.Prelude.{ℕ, ◌+◌, ◌*◌, ◌/◌, ◌≤◌, ◌<◌, ◌≡◌, ◌⊎◌, List, [], ◌∷◌, ◌++◌, length, ℤ, Option, Result, Ok, Err}
 use Rattle.refusals.specs.Order.{Check, ◌when◌, in_turn}
+use Rattle.refusals.specs.declared.Refusal.{Refusal}
 use Rattle.maps.specs.Drawing.{Drawing}
 use Rattle.flows.specs.ProvingSet.{words_for}
 use Rattle.arrays.specs.Filled.{filled}
 use Rattle.records.specs.Check.{Outside, capacity_checks}
 use Rattle.questions.specs.Question.{end_checks}
 use Rattle.questions.specs.Largest.{LargestFound}
-use Rattle.questions.specs.declared.LargestAnswer.{LargestAnswer}
-use Rattle.questions.specs.declared.LargestAnswer.TheVariants.{Value, None, Refused}
 use Rattle.capture.specs.Entry.{begun, entry_checks}
 use Rattle.capture.specs.Window.{forward_of, found}
 
@@ -45,14 +44,13 @@ abbrev pub found_drawing : Drawing → List ℕ → (w n : ℕ) → Drawing
 found_drawing 𝓓 b w n = record { map = 𝓓.map; capacity = found 𝓓.capacity b w n; outer = 𝓓.outer }
 
 -- the forward limits in the first places of their slice, whether Largest finds a value or none; as it was where it is refused
-abbrev pub LimitsGiven : (edges : ℕ) → (ℕ → ℤ) → (limits limits' : List ℤ) → LargestAnswer → Type 0
-LimitsGiven edges forward limits limits' (Value v) = limits' ≡ filled edges forward limits
-LimitsGiven edges forward limits limits' None = limits' ≡ filled edges forward limits
-LimitsGiven edges forward limits limits' (Refused k p) = limits' ≡ limits
+abbrev pub LimitsGiven : (edges : ℕ) → (ℕ → ℤ) → (limits limits' : List ℤ) → Result (Option ℤ) Refusal → Type 0
+LimitsGiven edges forward limits limits' (Ok value) = limits' ≡ filled edges forward limits
+LimitsGiven edges forward limits limits' (Err r) = limits' ≡ limits
 
 -- What is answered, where `checks` are the refusals in order: the limits after record n, and Largest on the drawing that has them.
-abbrev pub FoundAfter : Drawing → List Check → List ℕ → (w n source sink : ℕ) → (limits limits' flows flows' : List ℤ) (set set' : List ℕ) → LargestAnswer
-    → Type 0
+abbrev pub FoundAfter : Drawing → List Check → List ℕ → (w n source sink : ℕ) → (limits limits' flows flows' : List ℤ) (set set' : List ℕ)
+    → Result (Option ℤ) Refusal → Type 0
 FoundAfter 𝓓 checks b w n source sink limits limits' flows flows' set set' answer =
     LimitsGiven 𝓓.map.edges (forward_of 𝓓.capacity b w n) limits limits' answer
     × LargestFound (found_drawing 𝓓 b w n) checks source sink flows flows' set set' answer

@@ -2,7 +2,7 @@
 // capture is never copied, whatever its length: what is kept of it is the tick of the record before, and for each edge the least limit of the window.
 #![tactic(auto)]
 
-ghost use Rattle.std.specs.Prelude.{◌≡◌, ℕ, ◌+◌, ◌-◌, ◌*◌, ◌<◌, ◌≤◌, length, set};
+ghost use Rattle.std.specs.Prelude.{◌≡◌, ℕ, ◌+◌, ◌*◌, ◌<◌, ◌≤◌, length, set};
 ghost use Rattle.refusals.specs.Order.{Judged, NoneOf};
 ghost use Rattle.grouping.specs.inner.OpenDrawing.{OpenDrawing};
 ghost use Rattle.arrays.specs.At.{at, atℤ};
@@ -12,11 +12,10 @@ ghost use Rattle.capture.specs.Entry.{entry_place, entry_checks};
 ghost use Rattle.capture.specs.Window.{laid};
 ghost use Rattle.capture.specs.Capture.{window_checks, records_checks, limits_checks, last_checks, capture_checks, FoundAfter};
 ghost use Rattle.capture.specs.inner.Read.{entry_at};
-ghost use Rattle.capture.specs.inner.Taken.{goesOn, place_behind, Passing, Stands, verdict_of, lowered, LimitsTaken};
+ghost use Rattle.capture.specs.inner.Taken.{place_behind, Passing, Stands, lowered, LimitsTaken};
 
 use arrays::{Sizes, Terminals};
-use questions::LargestAnswer;
-use refusals::Verdict;
+use refusals::{Refusal, refused};
 
 // The capture and a place in it.
 #[derive(Clone, Copy)]
@@ -25,148 +24,80 @@ pub struct Reader<'a> {
     pub at: usize,
 }
 
-// What stands at a place: no record of kind 5, one that is cut short, or a whole one with its tick, its edge and its limit.
+// A whole record: its tick, its edge and its limit.
 #[derive(Clone, Copy)]
-pub enum Entry {
-    Wrong,
-    Cut,
-    Full(u32, u16, i32),
+pub struct Entry {
+    pub tick: u32,
+    pub edge: u16,
+    pub limit: i32,
 }
 
-// What the records looked at come to: the number of the refusal of one of them, 0 where all have passed, and the tick of the last.
-#[derive(Clone, Copy)]
-pub struct Checked {
-    pub refusal: u8,
-    pub last: u32,
-}
-
-// The record at a place, on slice and number. What is left is compared with a record's length, so that no sum can wrap.
-pub fn entry_at(capture: &[u8], at: usize) -> Entry
+// The whole record at a place, on slice and number: 2 for no record of kind 5, 1 for one that is cut short. What is left is compared with a record's length, so
+// that no sum can wrap.
+pub fn entry_at(capture: &[u8], at: usize) -> Result<Entry, Refusal>
     ensures { result ≡ entry_at capture.now at }
 {
     if capture.len() <= at {
-        return Entry::Wrong;
+        return refused(2);
     }
     if capture[at] != 5 {
-        return Entry::Wrong;
+        return refused(2);
     }
     if capture.len() - at < records::record_length(5) {
-        return Entry::Cut;
+        return refused(1);
     }
     let tick = fields::read_u32(capture, at + 1);
     let edge = fields::read_u16(capture, at + 5);
     let limit = fields::read_i32(capture, at + 7);
-    Entry::Full(tick, edge, limit)
-}
-
-// The same number, widened.
-fn wide64(x: u64) -> usize
-    ensures { result ≡ x }
-{
-    x as usize
+    Ok(Entry { tick, edge, limit })
 }
 
 // Check 26: a window of 1 to 256 records, and a named record that is one of the whole ones.
-fn check_window(capture: &[u8], window: usize, named: usize) -> Verdict
+fn check_window(capture: &[u8], window: usize, named: usize) -> Result<(), Refusal>
     ensures { Judged (window_checks capture.now window named) result }
 {
-    if window < 1 {
-        return Verdict::Refused(26, 0);
+    if window < 1 || window > 256 || capture.len() / 11 <= named {
+        return refused(26);
     }
-    if window > 256 {
-        return Verdict::Refused(26, 0);
-    }
-    if capture.len() / 11 <= named {
-        return Verdict::Refused(26, 0);
-    }
-    Verdict::Passed
-}
-
-// Whether another record is to be checked: none was refused, and bytes are left.
-fn goes_on(capture: &[u8], at: usize, checked: Checked) -> bool
-    ensures { result ≡ goesOn capture.now at checked.refusal }
-{
-    if checked.refusal != 0 {
-        return false;
-    }
-    at < capture.len()
+    Ok(())
 }
 
 // The place behind the record at a place: a record's length farther, or the end of the capture where that is nearer.
 fn behind(capture: &[u8], at: usize) -> usize
     ensures { result ≡ place_behind capture.now at }
 {
-    if capture.len() <= at {
-        return capture.len();
-    }
-    let left = capture.len() - at;
-    if left < records::record_length(5) {
-        return capture.len();
-    }
-    at + records::record_length(5)
+    at.saturating_add(records::record_length(5))
+        .min(capture.len())
 }
 
-// One record, after those before it have passed: 2, 1, 25 and 27.
-fn check_entry(capture: &[u8], at: usize, edges: usize, passed: Checked) -> Checked
-    requires { (at < length capture.now) × Passing edges capture.now at passed.last }
-    ensures { Stands edges capture.now (place_behind capture.now at) result.refusal result.last }
+// One record, after those before it have passed, with the tick of the last of them: 2, 1, 25 and 27. The answer is its own tick.
+fn check_entry(capture: &[u8], at: usize, edges: usize, last: u32) -> Result<u32, Refusal>
+    requires { (at < length capture.now) × Passing edges capture.now at last }
+    ensures { Stands edges capture.now (place_behind capture.now at) result }
 {
-    let entry = entry_at(capture, at);
-    match entry {
-        Entry::Wrong => Checked {
-            refusal: 2,
-            last: 0,
-        },
-        Entry::Cut => Checked {
-            refusal: 1,
-            last: 0,
-        },
-        Entry::Full(tick, edge, _) => {
-            if edges <= arrays::wide(edge) {
-                return Checked {
-                    refusal: 25,
-                    last: 0,
-                };
-            }
-            if tick < passed.last {
-                return Checked {
-                    refusal: 27,
-                    last: 0,
-                };
-            }
-            Checked {
-                refusal: 0,
-                last: tick,
-            }
-        }
+    let entry = entry_at(capture, at)?;
+    if edges <= usize::from(entry.edge) {
+        return refused(25);
     }
-}
-
-// What the records come to, once no more is to be checked.
-fn verdict_of(checked: Checked) -> Verdict
-    ensures { result ≡ verdict_of checked.refusal }
-{
-    if checked.refusal == 0 {
-        return Verdict::Passed;
+    if entry.tick < last {
+        return refused(27);
     }
-    Verdict::Refused(checked.refusal, 0)
+    Ok(entry.tick)
 }
 
 // Every record of the capture in turn, to the end: 2, 1, 25 and 27. The reader holds the capture and its place, which goes forward from record to record; what
 // is kept beside it is the tick of the record before.
-fn check_capture(capture: &[u8], edges: usize) -> Verdict
+fn check_capture(capture: &[u8], edges: usize) -> Result<(), Refusal>
     ensures { Judged (records_checks edges capture.now) result }
 {
     let mut reader = Reader { capture, at: 0 };
-    let mut checked = Checked {
-        refusal: 0,
-        last: 0,
-    };
-    while goes_on(reader.capture, reader.at, checked) {
-        checked = check_entry(reader.capture, reader.at, edges, checked);
+    let mut last: u32 = 0;
+    // A while loop: the reader goes forward by a record, to the end of the bytes or to the first refusal.
+    while reader.at < reader.capture.len() {
+        last = check_entry(reader.capture, reader.at, edges, last)?;
         reader.at = behind(reader.capture, reader.at);
     }
-    verdict_of(checked)
+    Ok(())
 }
 
 // The capacity of an edge's forward dart once a record of it is taken: the first one's limit, then the lesser of the two.
@@ -176,7 +107,7 @@ fn lowered_by(mark: u8, present: i32, limit: i32) -> i32
     if mark == 0 {
         return limit;
     }
-    if limit < present { limit } else { present }
+    limit.min(present)
 }
 
 // One record of the window is taken: its edge is marked, and the capacity of its forward dart is the least so far.
@@ -208,30 +139,27 @@ fn take_window(
         × ((d : ℕ) → atℤ capacities.new d ≡ laid (atℤ capacities.old) capture.now first count d) }
 {
     let mut seen = [0u8; 512];
-    let mut i: usize = 0;
-    while i < count {
-        let entry = entry_at(capture, records::record_length(5) * (first + i));
-        i += 1;
-        if let Entry::Full(_, edge, limit) = entry {
-            take_limit(&mut seen, &mut *capacities, arrays::wide(edge), limit);
+    for i in 0..count {
+        if let Ok(entry) = entry_at(capture, records::record_length(5) * (first + i)) {
+            take_limit(
+                &mut seen,
+                &mut *capacities,
+                usize::from(entry.edge),
+                entry.limit,
+            );
         }
     }
 }
 
 // Checks 6 and 7 on the limits found, channel by channel.
-fn check_found(capacities: &[i32; 1024], edges: usize) -> Verdict
+fn check_found(capacities: &[i32; 1024], edges: usize) -> Result<(), Refusal>
     requires { edges ≤ 512 }
     ensures { Judged (limits_checks edges (atℤ capacities.now)) result }
 {
-    let mut e: usize = 0;
-    while e < edges {
-        let channel = records::check_capacities(capacities[2 * e], capacities[2 * e + 1]);
-        if let Verdict::Refused(k, p) = channel {
-            return Verdict::Refused(k, p);
-        }
-        e += 1;
+    for e in 0..edges {
+        records::check_capacities(capacities[2 * e], capacities[2 * e + 1])?;
     }
-    Verdict::Passed
+    Ok(())
 }
 
 // Checks 13, 14 and 16, which stand last; 16 covers all three slices.
@@ -243,16 +171,13 @@ fn check_last(
     limits: &[i32],
     flows: &[i32],
     set: &[u64],
-) -> Verdict
+) -> Result<(), Refusal>
     requires { nodes ≤ 1024 }
     ensures { Judged (last_checks nodes edges source sink limits.now flows.now set.now) result }
 {
-    let named = questions::check_ends(nodes, source, sink);
-    if let Verdict::Refused(k, p) = named {
-        return Verdict::Refused(k, p);
-    }
+    questions::check_ends(nodes, source, sink)?;
     if limits.len() < edges {
-        return Verdict::Refused(16, 0);
+        return refused(16);
     }
     questions::check_room(nodes, edges, flows.len(), set.len())
 }
@@ -262,21 +187,9 @@ fn write_limits(capacities: &[i32; 1024], edges: usize, limits: &mut [i32])
     requires { (edges ≤ 512) × (length limits.old ≡ edges) }
     ensures { limits.new ≡ filled edges (λ e. atℤ capacities.now (2 * e)) limits.old }
 {
-    let mut e: usize = 0;
-    while e < edges {
+    for e in 0..edges {
         limits[e] = capacities[2 * e];
-        e += 1;
     }
-}
-
-// Where a window of so many records begins that ends before `end`: at 0 where fewer stand before it.
-fn window_start(end: usize, window: usize) -> usize
-    ensures { result ≡ end - window }
-{
-    if end < window {
-        return 0;
-    }
-    end - window
 }
 
 // The limits after the named record, in place of the forward capacities: 26, every record of the capture, the window taken, then 6 and 7 on what is found.
@@ -286,21 +199,15 @@ fn take_limits(
     named: usize,
     edges: usize,
     capacities: &mut [i32; 1024],
-) -> Verdict
+) -> Result<(), Refusal>
     requires { (length capacities.old ≡ 1024) × (edges ≤ 512) }
     ensures { (length capacities.new ≡ 1024)
         × LimitsTaken edges (atℤ capacities.old) (atℤ capacities.new) capture.now window named result }
 {
-    let ranged = check_window(capture, window, named);
-    if let Verdict::Refused(k, p) = ranged {
-        return Verdict::Refused(k, p);
-    }
-    let whole = check_capture(capture, edges);
-    if let Verdict::Refused(k, p) = whole {
-        return Verdict::Refused(k, p);
-    }
+    check_window(capture, window, named)?;
+    check_capture(capture, edges)?;
     let end = named + 1;
-    let first = window_start(end, window);
+    let first = end.saturating_sub(window);
     take_window(capture, first, end - first, edges, &mut *capacities);
     check_found(&*capacities, edges)
 }
@@ -331,7 +238,7 @@ pub fn largest_after<'a>(
     limits: &mut [i32],
     flows: &mut [i32],
     set: &mut [u64],
-) -> LargestAnswer
+) -> Result<Option<i32>, Refusal>
     requires { (length capacities.old ≡ 1024)
         × OpenDrawing sizes tails.now rotations.now lefts.now capacities.old order.now from.now grouped.now starts.now }
     ensures { FoundAfter (drawing_of sizes.nodes sizes.edges sizes.outer tails.now rotations.now capacities.old)
@@ -341,17 +248,14 @@ pub fn largest_after<'a>(
         capture.now after.window after.named after.source after.sink
         limits.old limits.new flows.old flows.new set.old set.new result }
 {
-    let taken = take_limits(
+    take_limits(
         capture,
-        arrays::wide(after.window),
-        wide64(after.named),
+        usize::from(after.window),
+        after.named as usize,
         sizes.edges,
         &mut *capacities,
-    );
-    if let Verdict::Refused(k, p) = taken {
-        return LargestAnswer::Refused(k, p);
-    }
-    let last = check_last(
+    )?;
+    check_last(
         sizes.nodes,
         sizes.edges,
         after.source,
@@ -359,10 +263,7 @@ pub fn largest_after<'a>(
         &*limits,
         &*flows,
         &*set,
-    );
-    if let Verdict::Refused(k, p) = last {
-        return LargestAnswer::Refused(k, p);
-    }
+    )?;
     let edges = sizes.edges;
     let words = node_sets::words_for(sizes.nodes);
     let terminals = Terminals {

@@ -62,12 +62,12 @@ fn show<R: Print>(
     run(
         rt, s, tails, rotations, first, second, set, second_set, bytes,
     );
-    say::halves(rt, s, 9, tails);
-    say::halves(rt, s, 10, rotations);
-    say::words(rt, s, 11, first);
-    say::words(rt, s, 12, second);
-    say::longs(rt, s, 13, set);
-    say::longs(rt, s, 14, second_set);
+    say::numbers(rt, s, 9, tails);
+    say::numbers(rt, s, 10, rotations);
+    say::numbers(rt, s, 11, first);
+    say::numbers(rt, s, 12, second);
+    say::numbers(rt, s, 13, set);
+    say::numbers(rt, s, 14, second_set);
     say::bytes(rt, s, 15, bytes);
 }
 
@@ -110,14 +110,14 @@ fn lend<R: Print>(rt: &R, s: &[u8]) {
 }
 
 fn cases<R: Print>(rt: &R, input: &[u8]) {
+    // A while loop: each case is as long as it says.
     let mut at: usize = 0;
     while at < input.len() {
-        let n = case::length(input, at);
-        if n == 0 {
+        let Some(n) = case::length(input, at) else {
             say::count(rt, b"malformed at", at);
             say::say(rt, b"\n");
             return;
-        }
+        };
         let end = at + n;
         let s = &input[at..end];
         say::say(rt, case::part(s, 0));
@@ -127,7 +127,8 @@ fn cases<R: Print>(rt: &R, input: &[u8]) {
     }
 }
 
-// Reads until the buffer is full, the input ends or a read fails: how many bytes stand in front of the buffer.
+// Reads until the buffer is full, the input ends or a read fails: how many bytes stand in front of the buffer. Not `streams::read_input`, which has no bytes
+// where a read fails: the cases before it are printed.
 fn read_full<R: Read>(reader: &mut R, buffer: &mut [u8]) -> usize
     ensures within { result ≤ length buffer.new }
     ensures front { result ≡ length (take result buffer.new) }

@@ -2,28 +2,22 @@
 ghost use Rattle.std.specs.Prelude.{◌<◌};
 
 use super::{case, say};
-use desk::Class;
-use dimacs::DimacsAnswer;
-use key_text::KeyAnswer;
-use levels::LevelAnswer;
+use desk::ClassFigures;
 use pages::{Listed, Page, Question};
-use practice::PracticeAnswer;
-use questions::{LargestAnswer, MarkAnswer, SolveAnswer};
-use raising::RaiseAnswer;
-use ranges::RangeAnswer;
-use refusals::Verdict;
-use sheets::{ReadAnswer, WriteAnswer};
-use totals::TotalsAnswer;
+use questions::Solution;
+use ranges::Range;
+use refusals::Refusal;
+use sheets::Counts;
 
-fn say_read<R: Print>(rt: &R, answer: ReadAnswer) {
+fn say_read<R: Print>(rt: &R, answer: Result<Counts, Refusal>) {
     match answer {
-        ReadAnswer::Counts(nodes, edges, outer) => {
+        Ok(counts) => {
             say::say(rt, b": counts");
-            say::half(rt, nodes);
-            say::half(rt, edges);
-            say::half(rt, outer);
+            say::number(rt, counts.nodes);
+            say::number(rt, counts.edges);
+            say::number(rt, counts.outer);
         }
-        ReadAnswer::Refused(k, p) => say::refused(rt, k, p),
+        Err(refusal) => say::refused(rt, refusal),
     }
 }
 
@@ -40,10 +34,10 @@ pub fn read<R: Print>(
     );
 }
 
-fn say_write<R: Print>(rt: &R, answer: WriteAnswer) {
+fn say_write<R: Print>(rt: &R, answer: Result<usize, Refusal>) {
     match answer {
-        WriteAnswer::Bytes(n) => say::count(rt, b": bytes", n),
-        WriteAnswer::Refused(k, p) => say::refused(rt, k, p),
+        Ok(n) => say::count(rt, b": bytes", n),
+        Err(refusal) => say::refused(rt, refusal),
     }
 }
 
@@ -63,14 +57,14 @@ pub fn write<R: Print>(
     );
 }
 
-pub fn say_solve<R: Print>(rt: &R, answer: SolveAnswer) {
+pub fn say_solve<R: Print>(rt: &R, answer: Result<Solution, Refusal>) {
     match answer {
-        SolveAnswer::Can => say::say(rt, b": can"),
-        SolveAnswer::Cannot(n) => {
+        Ok(Solution::Can) => say::say(rt, b": can"),
+        Ok(Solution::Cannot(n)) => {
             say::say(rt, b": cannot");
-            say::half(rt, n);
+            say::number(rt, n);
         }
-        SolveAnswer::Refused(k, p) => say::refused(rt, k, p),
+        Err(refusal) => say::refused(rt, refusal),
     }
 }
 
@@ -106,35 +100,29 @@ fn with_next(list: Listed, i: usize, sources: &[u16], sinks: &[u16], values: &[i
 // As many questions as there are sources: the first 64 of them.
 fn list_of(sources: &[u16], sinks: &[u16], values: &[i32]) -> Listed {
     let mut next = pages::empty_list(sources.len());
-    let mut i: usize = 0;
-    while i < 64 {
+    for i in 0..64usize {
         next = with_next(next, i, sources, sinks, values);
-        i += 1;
     }
     next
 }
 
 fn say_answers<R: Print>(rt: &R, page: Page) {
-    let mut i: usize = 0;
-    while i < 64 {
+    for (i, answer) in page.answers.iter().enumerate() {
         if page.count <= i {
             return;
         }
-        let answered = page.answers[i];
-        let answer = answered.answer;
-        say_solve(rt, answer);
-        i += 1;
+        say_solve(rt, *answer);
     }
 }
 
-fn say_page<R: Print>(rt: &R, page: Page) {
-    let verdict = page.verdict;
-    if let Verdict::Refused(k, p) = verdict {
-        say::refused(rt, k, p);
-        return;
+fn say_page<R: Print>(rt: &R, answer: Result<Page, Refusal>) {
+    match answer {
+        Ok(page) => {
+            say::say(rt, b": answers");
+            say_answers(rt, page);
+        }
+        Err(refusal) => say::refused(rt, refusal),
     }
-    say::say(rt, b": answers");
-    say_answers(rt, page);
 }
 
 pub fn page<R: Print>(
@@ -150,14 +138,14 @@ pub fn page<R: Print>(
     say_page(rt, analyser::page_of(case::part(s, 1), list, flows, sets));
 }
 
-fn say_largest<R: Print>(rt: &R, answer: LargestAnswer) {
+fn say_largest<R: Print>(rt: &R, answer: Result<Option<i32>, Refusal>) {
     match answer {
-        LargestAnswer::Value(v) => {
+        Ok(Some(v)) => {
             say::say(rt, b": largest");
-            say::signed(rt, v);
+            say::number(rt, v);
         }
-        LargestAnswer::None => say::say(rt, b": none"),
-        LargestAnswer::Refused(k, p) => say::refused(rt, k, p),
+        Ok(None) => say::say(rt, b": none"),
+        Err(refusal) => say::refused(rt, refusal),
     }
 }
 
@@ -198,15 +186,15 @@ pub fn largest_after<R: Print>(
     );
 }
 
-fn say_range<R: Print>(rt: &R, answer: RangeAnswer) {
+fn say_range<R: Print>(rt: &R, answer: Result<Option<Range>, Refusal>) {
     match answer {
-        RangeAnswer::Values(v, w) => {
+        Ok(Some(range)) => {
             say::say(rt, b": values");
-            say::signed(rt, v);
-            say::signed(rt, w);
+            say::number(rt, range.least);
+            say::number(rt, range.largest);
         }
-        RangeAnswer::None => say::say(rt, b": none"),
-        RangeAnswer::Refused(k, p) => say::refused(rt, k, p),
+        Ok(None) => say::say(rt, b": none"),
+        Err(refusal) => say::refused(rt, refusal),
     }
 }
 
@@ -226,14 +214,14 @@ pub fn least_and_largest<R: Print>(
     );
 }
 
-fn say_raise<R: Print>(rt: &R, answer: RaiseAnswer) {
+fn say_raise<R: Print>(rt: &R, answer: Result<Option<i32>, Refusal>) {
     match answer {
-        RaiseAnswer::Limit(v) => {
+        Ok(Some(v)) => {
             say::say(rt, b": limit");
-            say::signed(rt, v);
+            say::number(rt, v);
         }
-        RaiseAnswer::None => say::say(rt, b": none"),
-        RaiseAnswer::Refused(k, p) => say::refused(rt, k, p),
+        Ok(None) => say::say(rt, b": none"),
+        Err(refusal) => say::refused(rt, refusal),
     }
 }
 
@@ -248,13 +236,13 @@ pub fn raise_limit<R: Print>(rt: &R, s: &[u8], flows: &mut [i32], set: &mut [u64
     );
 }
 
-fn say_mark<R: Print>(rt: &R, answer: MarkAnswer) {
+fn say_mark<R: Print>(rt: &R, answer: Result<i32, Refusal>) {
     match answer {
-        MarkAnswer::Value(x) => {
+        Ok(x) => {
             say::say(rt, b": value");
-            say::signed(rt, x);
+            say::number(rt, x);
         }
-        MarkAnswer::Refused(k, p) => say::refused(rt, k, p),
+        Err(refusal) => say::refused(rt, refusal),
     }
 }
 
@@ -264,10 +252,10 @@ pub fn mark<R: Print>(rt: &R, s: &[u8], flows: &mut [i32]) {
     say_mark(rt, analyser::mark(case::part(s, 1), source, sink, flows));
 }
 
-fn say_levels<R: Print>(rt: &R, answer: LevelAnswer) {
+fn say_levels<R: Print>(rt: &R, answer: Result<(), Refusal>) {
     match answer {
-        LevelAnswer::Done => say::say(rt, b": done"),
-        LevelAnswer::Refused(k, p) => say::refused(rt, k, p),
+        Ok(()) => say::say(rt, b": done"),
+        Err(refusal) => say::refused(rt, refusal),
     }
 }
 
@@ -285,13 +273,13 @@ pub fn settings<R: Print>(rt: &R, s: &[u8], levels: &mut [i32], flows: &mut [i32
     );
 }
 
-fn say_totals<R: Print>(rt: &R, answer: TotalsAnswer) {
+fn say_totals<R: Print>(rt: &R, answer: Result<i32, Refusal>) {
     match answer {
-        TotalsAnswer::Total(x) => {
+        Ok(x) => {
             say::say(rt, b": total");
-            say::signed(rt, x);
+            say::number(rt, x);
         }
-        TotalsAnswer::Refused(k, p) => say::refused(rt, k, p),
+        Err(refusal) => say::refused(rt, refusal),
     }
 }
 
@@ -299,10 +287,10 @@ pub fn totals<R: Print>(rt: &R, s: &[u8], subtotals: &mut [i32], set: &[u64]) {
     say_totals(rt, analyser::totals(case::part(s, 1), set, subtotals));
 }
 
-fn say_practice<R: Print>(rt: &R, answer: PracticeAnswer) {
+fn say_practice<R: Print>(rt: &R, answer: Result<usize, Refusal>) {
     match answer {
-        PracticeAnswer::Bytes(n) => say::count(rt, b": bytes", n),
-        PracticeAnswer::Refused(k, p) => say::refused(rt, k, p),
+        Ok(n) => say::count(rt, b": bytes", n),
+        Err(refusal) => say::refused(rt, refusal),
     }
 }
 
@@ -327,9 +315,9 @@ pub fn key<R: Print>(rt: &R, s: &[u8]) {
 pub fn write_key<R: Print>(rt: &R, s: &[u8], text: &mut [u8]) {
     let answer = key_text::write_key(case::part(s, 1), text);
     match answer {
-        KeyAnswer::Bytes(n) => say::text(rt, text, n),
-        KeyAnswer::Refused(k, p) => {
-            say::refused(rt, k, p);
+        Ok(n) => say::text(rt, text, n),
+        Err(refusal) => {
+            say::refused(rt, refusal);
             say::bytes(rt, s, 16, text);
         }
     }
@@ -340,25 +328,25 @@ pub fn write_dimacs<R: Print>(rt: &R, s: &[u8], text: &mut [u8]) {
     let sink = case::half(s, 4);
     let answer = analyser::write_dimacs(case::part(s, 1), source, sink, text);
     match answer {
-        DimacsAnswer::Bytes(n) => say::text(rt, text, n),
-        DimacsAnswer::Refused(k, p) => {
-            say::refused(rt, k, p);
+        Ok(n) => say::text(rt, text, n),
+        Err(refusal) => {
+            say::refused(rt, refusal);
             say::bytes(rt, s, 16, text);
         }
     }
 }
 
-fn say_class<R: Print>(rt: &R, class: Class) {
-    match class {
-        Class::Empty => say::say(rt, b": empty"),
-        Class::Marked(number, sum, least, greatest) => {
+fn say_class<R: Print>(rt: &R, answer: Result<Option<ClassFigures>, Refusal>) {
+    match answer {
+        Ok(None) => say::say(rt, b": empty"),
+        Ok(Some(marks)) => {
             say::say(rt, b": class");
-            say::half(rt, number);
-            say::half(rt, sum);
-            say::half(rt, least as u16);
-            say::half(rt, greatest as u16);
+            say::number(rt, marks.number);
+            say::number(rt, marks.sum);
+            say::number(rt, marks.least);
+            say::number(rt, marks.greatest);
         }
-        Class::Refused(k, p) => say::refused(rt, k, p),
+        Err(refusal) => say::refused(rt, refusal),
     }
 }
 

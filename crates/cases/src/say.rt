@@ -2,49 +2,27 @@
 ghost use Rattle.std.specs.Prelude.{◌+◌, ◌<◌, ◌≤◌, length};
 
 use super::case;
+use refusals::Refusal;
+use std::fmt::Display;
 
 pub fn say<R: Print>(rt: &R, text: &[u8]) {
     let _said = rt.write_all(text);
 }
 
-fn wide32(x: u32) -> u64
-    ensures { result < 4294967296 }
-{
-    x as u64
+// A number after a blank.
+pub fn number<R: Print, T: Display + Copy>(rt: &R, x: T) {
+    let _said = print!(rt; " {x}");
 }
 
-fn decimal<R: Print>(rt: &R, x: u64) {
-    let _said = print!(rt; "{x}");
-}
-
-fn number<R: Print>(rt: &R, x: u64) {
-    say(rt, b" ");
-    decimal(rt, x);
-}
-
-pub fn signed<R: Print>(rt: &R, x: i32) {
-    let bits = wide32(signed::to_bits(x));
-    if x < 0 {
-        say(rt, b" -");
-        decimal(rt, 4294967296 - bits);
-    } else {
-        number(rt, bits);
-    }
-}
-
-pub fn half<R: Print>(rt: &R, x: u16) {
-    number(rt, x as u64);
-}
-
-pub fn count<R: Print>(rt: &R, word: &[u8], x: usize) {
+pub fn count<R: Print>(rt: &R, word: &[u8], n: usize) {
     say(rt, word);
-    number(rt, x as u64);
+    number(rt, n);
 }
 
-pub fn refused<R: Print>(rt: &R, k: u8, p: u16) {
+pub fn refused<R: Print>(rt: &R, refusal: Refusal) {
     say(rt, b": refused");
-    number(rt, k as u64);
-    half(rt, p);
+    number(rt, refusal.number);
+    number(rt, refusal.place);
 }
 
 // The name of a slice, and whether it has one.
@@ -60,42 +38,15 @@ fn name<R: Print>(rt: &R, s: &[u8], k: usize) -> bool
     true
 }
 
-pub fn halves<R: Print>(rt: &R, s: &[u8], k: usize, values: &[u16])
+// The elements of a slice that has a name in the case.
+pub fn numbers<R: Print, T: Display + Copy>(rt: &R, s: &[u8], k: usize, values: &[T])
     requires { k < 17 }
 {
     if !name(rt, s, k) {
         return;
     }
-    let mut i: usize = 0;
-    while i < values.len() {
-        half(rt, values[i]);
-        i += 1;
-    }
-}
-
-pub fn words<R: Print>(rt: &R, s: &[u8], k: usize, values: &[i32])
-    requires { k < 17 }
-{
-    if !name(rt, s, k) {
-        return;
-    }
-    let mut i: usize = 0;
-    while i < values.len() {
-        signed(rt, values[i]);
-        i += 1;
-    }
-}
-
-pub fn longs<R: Print>(rt: &R, s: &[u8], k: usize, values: &[u64])
-    requires { k < 17 }
-{
-    if !name(rt, s, k) {
-        return;
-    }
-    let mut i: usize = 0;
-    while i < values.len() {
-        number(rt, values[i]);
-        i += 1;
+    for x in values {
+        number(rt, *x);
     }
 }
 
@@ -104,26 +55,24 @@ fn alike(s: &[u8], at: usize) -> usize
     requires { at < length s.now }
     ensures { (0 < result) × (at + result ≤ length s.now) }
 {
-    let mut end = at + 1;
-    while end < s.len() {
+    for end in at + 1..s.len() {
         if s[end] != s[at] {
             return end - at;
         }
-        end += 1;
     }
-    end - at
+    s.len() - at
 }
 
 // A byte, and how often it stands there if more than once.
 fn run<R: Print>(rt: &R, byte: u8, n: usize) {
-    number(rt, byte as u64);
+    number(rt, byte);
     if n > 1 {
-        say(rt, b"*");
-        decimal(rt, n as u64);
+        let _said = print!(rt; "*{n}");
     }
 }
 
 fn runs<R: Print>(rt: &R, values: &[u8]) {
+    // A while loop: each run is as long as it is, and the place goes behind it.
     let mut at: usize = 0;
     while at < values.len() {
         let n = alike(values, at);

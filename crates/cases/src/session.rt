@@ -2,64 +2,36 @@
 // kind, party, source and sink, 16 bits each, and its value in 32. Kind 0 asks, 1 commits, any other clears.
 use super::{case, operations, say};
 use parties::SessionSizes;
-use refusals::Verdict;
+use refusals::Refusal;
 
-fn say_verdict<R: Print>(rt: &R, answer: Verdict) {
+fn say_verdict<R: Print>(rt: &R, answer: Result<(), Refusal>) {
     match answer {
-        Verdict::Passed => say::say(rt, b": done"),
-        Verdict::Refused(k, p) => say::refused(rt, k, p),
+        Ok(()) => say::say(rt, b": done"),
+        Err(refusal) => say::refused(rt, refusal),
     }
 }
 
 // The limits left, two to an edge.
 fn say_left<R: Print>(rt: &R, edges: u16, left: &[i32; 1024]) {
     say::say(rt, b": left");
-    let m = arrays::wide(edges);
-    let mut d: usize = 0;
-    while d < 1024 {
-        if d / 2 < m {
-            say::signed(rt, left[d]);
+    let darts = darts_of(edges);
+    for (d, limit) in left.iter().enumerate() {
+        if d < darts {
+            say::number(rt, *limit);
         }
-        d += 1;
     }
 }
 
 fn darts_of(edges: u16) -> usize {
-    2 * arrays::wide(edges)
-}
-
-fn say_old<R: Print>(rt: &R) {
-    say::say(rt, b": old");
+    2 * usize::from(edges)
 }
 
 // Of each array, what a start left as it was in memory: past the last dart, and in the offers, all is zero.
-fn say_old_halves<R: Print>(rt: &R, from: usize, values: &[u16; 1024]) {
-    let mut d: usize = from;
-    while d < 1024 {
-        if values[d] != 0 {
-            say_old(rt);
+fn say_old<R: Print, T: Copy + PartialEq + Default>(rt: &R, from: usize, values: &[T]) {
+    for (i, x) in values.iter().enumerate() {
+        if from <= i && *x != T::default() {
+            say::say(rt, b": old");
         }
-        d += 1;
-    }
-}
-
-fn say_old_limits<R: Print>(rt: &R, from: usize, values: &[i32; 1024]) {
-    let mut d: usize = from;
-    while d < 1024 {
-        if values[d] != 0 {
-            say_old(rt);
-        }
-        d += 1;
-    }
-}
-
-fn say_old_offer<R: Print>(rt: &R, values: &[i32; 512]) {
-    let mut e: usize = 0;
-    while e < 512 {
-        if values[e] != 0 {
-            say_old(rt);
-        }
-        e += 1;
     }
 }
 
@@ -80,9 +52,9 @@ fn ask<'a, R: Print>(
     set: &mut [u64],
 ) {
     let sizes = SessionSizes {
-        nodes: nodes,
-        edges: edges,
-        outer: outer,
+        nodes,
+        edges,
+        outer,
     };
     operations::say_solve(
         rt,
@@ -172,18 +144,17 @@ pub fn session<R: Print>(rt: &R, s: &[u8], flows: &mut [i32], set: &mut [u64]) {
         ),
     );
     let darts = darts_of(edges);
-    say_old_halves(rt, darts, &tails);
-    say_old_halves(rt, darts, &rotations);
-    say_old_limits(rt, darts, &limits);
-    say_old_limits(rt, darts, &left);
-    say_old_offer(rt, &first);
-    say_old_offer(rt, &second);
+    say_old(rt, darts, &tails);
+    say_old(rt, darts, &rotations);
+    say_old(rt, darts, &limits);
+    say_old(rt, darts, &left);
+    say_old(rt, 0, &first);
+    say_old(rt, 0, &second);
     let calls = case::part(s, 2);
-    let mut at: usize = 0;
-    while calls.len() - at >= 12 {
+    for c in calls.chunks_exact(12) {
         call(
             rt,
-            &calls[at..],
+            c,
             nodes,
             edges,
             outer,
@@ -197,7 +168,6 @@ pub fn session<R: Print>(rt: &R, s: &[u8], flows: &mut [i32], set: &mut [u64]) {
             flows,
             set,
         );
-        at += 12;
     }
     say_left(rt, edges, &left);
 }

@@ -7,13 +7,15 @@ use native.Mathlib.Omega.{arith}
 use lib.Dec.{eqb}
 use lib.IntN.{ℤ, pos, ◌+ℤ◌}
 use mir.Syntax.{w32, w64}
-use mir.Val.{SFits}
+use mir.Val.{SFits, to_z, of_z}
+use mir.ValLaws.{to_z-of_z}
 use Rattle.integers.specs.Sum.{Integers, when}
 use Rattle.integers.specs.inner.Limited.{Limited}
 use Rattle.integers.proofs.Omega.{atoms₁, atoms₃, parts, equal}
 use Rattle.integers.proofs.Sums.{sum_zero, sum_more}
-use Rattle.integers.proofs.Limits.{limited_more, limited_when, limited_sum}
+use Rattle.integers.proofs.Limits.{limited_when, limited_sum}
 use Rattle.integers.proofs.Tests.{eqb_true, eqb_false}
+use Rattle.signed.proofs.Laws.{number_of_bits}
 use Rattle.signed.proofs.Limits.{limited_fits, limited_fits64}
 use Rattle.maps.specs.Dart.{rev}
 use Rattle.maps.proofs.Darts.{rev_in, rev_even, rev_odd}
@@ -25,12 +27,6 @@ pub reverse_in : (n d : ℕ) → n % 2 ≡ 0 → d < n → rev d < n
 reverse_in n d e l = let q : 2 * (n / 2) ≡ n = omega arith in rw q at (rev_in (n / 2) d (omega arith))
 
 -- ── a test that is known ──
-pub and_yes : {a : Bool} (b : Bool) → a ≡ true → b ≡ (a && b)
-and_yes b e = rw e
-
-pub and_no : {a : Bool} (b : Bool) → a ≡ false → false ≡ (a && b)
-and_no b e = rw e
-
 pub when_yes : {b : Bool} (x : ℤ) → b ≡ true → x ≡ when b x
 when_yes x e = rw e
 
@@ -42,13 +38,13 @@ pub cut_none : (tail : ℕ → ℕ) (length : ℕ → ℤ) (S : ℕ → Bool) �
 unfolding cut_of
 cut_none tail length S = sum_zero Integers _
 
-pub cut_more : (d : ℕ) (tail : ℕ → ℕ) (length : ℕ → ℤ) (S : ℕ → Bool)
+cut_more : (d : ℕ) (tail : ℕ → ℕ) (length : ℕ → ℤ) (S : ℕ → Bool)
     → cut_of (d + 1) tail length S ≡ cut_of d tail length S +ℤ when (leaves_of tail S d) (length d)
 unfolding cut_of
 cut_more d tail length S = sum_more Integers d _
 
 -- one edge more: both of its darts
-pub cut_edge : (e : ℕ) (tail : ℕ → ℕ) (length : ℕ → ℤ) (S : ℕ → Bool)
+cut_edge : (e : ℕ) (tail : ℕ → ℕ) (length : ℕ → ℤ) (S : ℕ → Bool)
     → cut_of (2 * e) tail length S +ℤ (when (leaves_of tail S (2 * e)) (length (2 * e)) +ℤ when (leaves_of tail S (2 * e + 1)) (length (2 * e + 1)))
     ≡ cut_of (2 * (e + 1)) tail length S
 cut_edge e tail length S =
@@ -64,7 +60,7 @@ cut_edge e tail length S =
     regroup x y z = let a = atoms₃ x y z in equal (search parts) (omega arith)
 
 -- ── the two darts of an edge: a its tail's flag, b its head's ──
-pub zero_right : (x : ℤ) → x ≡ x +ℤ pos 0
+zero_right : (x : ℤ) → x ≡ x +ℤ pos 0
 zero_right x = let a = atoms₁ x in equal (search parts) (omega arith)
 
 zero_left : (x : ℤ) → x ≡ pos 0 +ℤ x
@@ -99,9 +95,6 @@ first_marked x y n t = rw (eqb_true x 1 t, eqb_false y 1 (λ q. n (t ∙ sym q))
 pub second_marked : (x y : ℕ) → x ≢ 1 → y ≡ 1 → (eqb y 1 && not (eqb x 1)) ≡ true
 second_marked x y n t = rw (eqb_true y 1 t, eqb_false x 1 n)
 
-pub none_marked : (x y : ℕ) → x ≢ 1 → y ≢ 1 → ((eqb x 1 && not (eqb y 1)) ≡ false) × ((eqb y 1 && not (eqb x 1)) ≡ false)
-none_marked x y n m = (rw (eqb_false x 1 n), rw (eqb_false y 1 m))
-
 module _ (e : ℕ) (tail : ℕ → ℕ) (length : ℕ → ℤ) (S : ℕ → Bool) (a b : Bool) (tail_is : a ≡ S (tail (2 * e))) (head_is : b ≡ S (tail (2 * e + 1))) where
   abbrev Share : ℤ → Type 0
   Share r = r ≡ when (leaves_of tail S (2 * e)) (length (2 * e)) +ℤ when (leaves_of tail S (2 * e + 1)) (length (2 * e + 1))
@@ -121,11 +114,32 @@ module _ (e : ℕ) (tail : ℕ → ℕ) (length : ℕ → ℤ) (S : ℕ → Bool
   pub share_none : (a && not b) ≡ false → (b && not a) ≡ false → Share (pos 0)
   share_none h g = by_flags _ (neither_leaves a b _ _ h g)
 
-pub cut_fits : (d : ℕ) (tail : ℕ → ℕ) (length : ℕ → ℤ) (S : ℕ → Bool) → d ≤ 1024 → ((i : ℕ) → i < d → Limited most_length (length i))
+cut_fits : (d : ℕ) (tail : ℕ → ℕ) (length : ℕ → ℤ) (S : ℕ → Bool) → d ≤ 1024 → ((i : ℕ) → i < d → Limited most_length (length i))
     → SFits w64 (cut_of d tail length S)
 unfolding cut_of
 cut_fits d tail length S few short =
     limited_fits64 (d * most_length) _ (omega arith) (limited_sum d most_length _ (λ i l. limited_when (leaves_of tail S i) (short i l)))
+
+-- the share of edge e in the sum, as the loop holds them at 32 and at 64 bits
+module _ (e : ℕ) (tail : ℕ → ℕ) (length : ℕ → ℤ) (S : ℕ → Bool) (sum share : ℤ) (so_far : sum ≡ cut_of (2 * e) tail length S)
+    (narrow : SFits w32 share)
+    (share_is : share ≡ when (leaves_of tail S (2 * e)) (length (2 * e)) +ℤ when (leaves_of tail S (2 * e + 1)) (length (2 * e + 1))) where
+  -- a share of 0 is left out
+  pub sum_stays : of_z w32 share ≡ 0 → sum ≡ cut_of (2 * (e + 1)) tail length S
+  sum_stays z =
+      let none : pos 0 ≡ share = sym (ap (to_z w32) z) ∙ number_of_bits share narrow in
+      so_far ∙ zero_right _ ∙ ap (λ x. cut_of (2 * e) tail length S +ℤ x) (none ∙ share_is) ∙ cut_edge e tail length S
+
+  module _ (wide : ℤ) (f : SFits w64 wide) (q : wide ≡ to_z w32 (of_z w32 share)) where
+    sum_next : sum +ℤ to_z w64 (of_z w64 wide) ≡ cut_of (2 * (e + 1)) tail length S
+    sum_next = ap₂ ◌+ℤ◌ so_far (to_z-of_z w64 wide f ∙ q ∙ number_of_bits share narrow ∙ share_is) ∙ cut_edge e tail length S
+
+    module _ (few : 2 * (e + 1) ≤ 1024) (short : (i : ℕ) → i < 2 * (e + 1) → Limited most_length (length i)) where
+      pub sum_fits : SFits w64 (sum +ℤ to_z w64 (of_z w64 wide))
+      sum_fits = rw sum_next (cut_fits (2 * (e + 1)) tail length S few short)
+
+      pub sum_held : to_z w64 (of_z w64 (sum +ℤ to_z w64 (of_z w64 wide))) ≡ cut_of (2 * (e + 1)) tail length S
+      sum_held = to_z-of_z w64 _ sum_fits ∙ sum_next
 
 -- 1,024 darts of at most 2,000,000 stay below 2^31
 pub capacity_fits : (d : ℕ) (tail : ℕ → ℕ) (capacity : ℕ → ℤ) (S : ℕ → Bool) → d ≤ 1024 → ((i : ℕ) → i < d → Limited most_capacity (capacity i))
@@ -133,7 +147,3 @@ pub capacity_fits : (d : ℕ) (tail : ℕ → ℕ) (capacity : ℕ → ℤ) (S :
 unfolding cut_of
 capacity_fits d tail capacity S few small =
     limited_fits (d * most_capacity) _ (omega arith) (limited_sum d most_capacity _ (λ i l. limited_when (leaves_of tail S i) (small i l)))
-
--- a capacity is no longer than a length may be
-pub capacity_short : {x : ℤ} → Limited most_capacity x → Limited most_length x
-capacity_short h = limited_more (omega arith) h

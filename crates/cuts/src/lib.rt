@@ -15,8 +15,8 @@ fn edge_share(tails: &[u16; 1024], lengths: &[i32; 1024], inside: &[u8; 1024], e
     ensures { result ≡ when (leaves_of (at tails.now) (flagged inside.now) (2 * e)) (atℤ lengths.now (2 * e))
         +ℤ when (leaves_of (at tails.now) (flagged inside.now) (2 * e + 1)) (atℤ lengths.now (2 * e + 1)) }
 {
-    let tail = arrays::wide(tails[2 * e]);
-    let head = arrays::wide(tails[2 * e + 1]);
+    let tail = usize::from(tails[2 * e]);
+    let head = usize::from(tails[2 * e + 1]);
     let at_tail = inside[tail];
     let at_head = inside[head];
     if at_tail == at_head {
@@ -41,7 +41,7 @@ pub fn total(tails: &[u16; 1024], lengths: &[i32; 1024], inside: &[u8; 1024], da
     for e in 0..darts / 2 {
         let share = edge_share(tails, lengths, inside, e);
         if share != 0 {
-            sum = signed::plus64(sum, signed::widen(share));
+            sum += i64::from(share);
         }
     }
     sum
@@ -58,5 +58,5 @@ pub fn capacity(
         × ((d : ℕ) → d < darts → Limited most_capacity (atℤ capacities.now d)) }
     ensures { result ≡ cut_of darts (at tails.now) (atℤ capacities.now) (flagged inside.now) }
 {
-    signed::narrow(total(tails, capacities, inside, darts))
+    total(tails, capacities, inside, darts) as i32
 }

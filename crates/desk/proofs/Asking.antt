@@ -1,7 +1,7 @@
 -- What the operations' contracts and printed statements say to the desk, which lends them slices that are long enough: no answer of theirs is a refusal then.
 use mathlib.Core.Path.{◌≡◌, refl, sym, ◌∙◌, ap, ap₂, subst}
 use mathlib.Core.Logic.{◌⊎◌, inl, inr}
-use mathlib.Core.Bool.{Bool, true, false, cond, ◌&&◌, true≢false}
+use mathlib.Core.Bool.{Bool, cond, ◌&&◌}
 use mathlib.Core.List.{List, ◌++◌}
 use Prim.Native.Nat.{ℕ, ◌+◌, ◌*◌, ◌≤◌, ◌<◌}
 use native.Mathlib.Omega.{arith}
@@ -13,7 +13,8 @@ use Rattle.integers.specs.Sum.{count, bit}
 use Rattle.integers.proofs.Tests.{of_T}
 use Rattle.integers.proofs.Counting.{bit_le, sum_le_size}
 use Rattle.refusals.specs.Order.{NoneOf, FirstOf, Judged}
-use Rattle.refusals.specs.declared.Verdict.{Verdict}
+use Rattle.refusals.specs.declared.Refusal.{Refusal}
+use Rattle.std.specs.Prelude.{Option, Some, None, Result, Ok, Err}
 use Rattle.refusals.proofs.Order.{none_append, append_none, first_left, first_right, append_first, first_none, neither}
 use Rattle.maps.specs.Cut.{cut}
 use Rattle.flows.specs.ProvingSet.{bound, words_for, member}
@@ -23,11 +24,7 @@ use Rattle.records.specs.Sheet.{nodes_of, edges_of, capacity_of, outer_of, sheet
 use Rattle.sheets.specs.Open.{sheet_checks}
 use Rattle.questions.specs.Question.{end_checks, value_checks, room_checks}
 use Rattle.questions.specs.Largest.{search_checks}
-use Rattle.questions.specs.declared.LargestAnswer.TheVariants as largest
-use Rattle.questions.specs.declared.MarkAnswer.{MarkAnswer}
-use Rattle.questions.specs.declared.MarkAnswer.TheVariants as mark
 use Rattle.totals.specs.Totals.{total_checks}
-use Rattle.totals.specs.declared.TotalsAnswer.TheVariants as totals
 use Rattle.analyser.specs.Largest.{largest_checks, FindsLargest}
 use Rattle.analyser.specs.Mark.{Marks}
 use Rattle.analyser.specs.Totals.{totals_checks, GivesTotals}
@@ -36,11 +33,9 @@ use Rattle.analyser.proofs.Statements.{settings_and_levels, possible_and_impossi
 use Rattle.analyser.proofs.ByNode.{totals_by_node}
 use Rattle.desk.specs.Paper.{nodes_in, Earns, IsLargest, LastSix, Points}
 use Rattle.desk.specs.Class.{class_checks, examine_checks, Examines}
-use Rattle.desk.specs.declared.Class.{Class}
+use Rattle.desk.specs.declared.ClassFigures.{ClassFigures}
 use Rattle.desk.specs.inner.Judged.{ProvesBy, LastSixBy}
 use Rattle.desk.specs.inner.Asked.{Asked}
-use Rattle.desk.specs.declared.Delivery.{Delivery}
-use Rattle.desk.specs.declared.Delivery.TheVariants.{Value, None}
 use Rattle.desk.proofs.Judging.{earns_by, earns_at_most, judged_at_most}
 
 -- ── the counts of an accepted sheet: 3 does not hold ──
@@ -72,50 +67,40 @@ module _ (s : List ℕ) (source sink : ℕ) (asked : Asked s source sink) where
       let words : length no_set < words_for (nodes_of s) → ⊥ = λ l. omega (arith, length-replicate {A = ℕ} 9 0, few_words (nodes_of s) few.0) in
       none_append (sheet_checks s) _ asked.sheet (none_append (end_checks (nodes_of s) source sink) _ asked.ends (neither flows words, tt))
 
-  pub value_largest : (v : ℤ) (flows' : List ℤ) (set' : List ℕ) → FindsLargest s source sink no_flows flows' no_set set' (largest.Value v)
-      → IsLargest s source sink (Value v)
+  pub value_largest : (v : ℤ) (flows' : List ℤ) (set' : List ℕ) → FindsLargest s source sink no_flows flows' no_set set' (Ok (Some v))
+      → IsLargest s source sink (Some v)
   value_largest v flows' set' h = (
     (atℤ flows', possible_and_impossible.largest_carries s source sink v no_flows flows' no_set set' h),
     possible_and_impossible.nothing_greater s source sink v no_flows flows' no_set set' h,
   )
 
-  pub none_largest : (flows' : List ℤ) (set' : List ℕ) → FindsLargest s source sink no_flows flows' no_set set' largest.None → IsLargest s source sink None
-  none_largest flows' set' h = (possible_and_impossible.none_exactly s source sink no_flows flows' no_set set' largest.None room h).0 refl
+  pub none_largest : (flows' : List ℤ) (set' : List ℕ) → FindsLargest s source sink no_flows flows' no_set set' (Ok None) → IsLargest s source sink None
+  none_largest flows' set' h = (possible_and_impossible.none_exactly s source sink no_flows flows' no_set set' (Ok None) room h).0 refl
 
-  pub never_refused : (k p : ℕ) (flows' : List ℤ) (set' : List ℕ) → FindsLargest s source sink no_flows flows' no_set set' (largest.Refused k p) → ⊥
-  never_refused k p flows' set' h = first_none (largest_checks s source sink no_flows no_set) k p h.0 room
+  pub largest_is : (d : Option ℤ) (flows' : List ℤ) (set' : List ℕ) → FindsLargest s source sink no_flows flows' no_set set' (Ok d) → IsLargest s source sink d
+  largest_is (Some v) flows' set' h = value_largest v flows' set' h
+  largest_is None flows' set' h = none_largest flows' set' h
+
+  pub never_refused : (r : Refusal) (flows' : List ℤ) (set' : List ℕ) → FindsLargest s source sink no_flows flows' no_set set' (Err r) → ⊥
+  never_refused r flows' set' h = first_none (largest_checks s source sink no_flows no_set) r.number r.place h.0 room
 
   -- ── Mark ──
-  mark_value : {v w : ℤ} → mark.Value v ≡ mark.Value w → v ≡ w
-  mark_value {v} e = ap number e
-    where
-      number : MarkAnswer → ℤ
-      number (mark.Value u) = u
-      number (mark.Refused k p) = v
-
-  not_refused : (k p : ℕ) (v : ℤ) → mark.Refused k p ≡ mark.Value v → ⊥
-  not_refused k p v e = true≢false (ap refused e)
-    where
-      refused : MarkAnswer → Bool
-      refused (mark.Refused j q) = true
-      refused (mark.Value w) = false
-
-  pub mark_exactly : (value : ℤ) (settings : List ℤ) (answer : MarkAnswer) → edges_of s ≤ length settings → Marks s source sink settings answer
-      → (answer ≡ mark.Value value → Delivers s source sink value (atℤ settings)) × (Delivers s source sink value (atℤ settings) → answer ≡ mark.Value value)
+  pub mark_exactly : (value : ℤ) (settings : List ℤ) (answer : Result ℤ Refusal) → edges_of s ≤ length settings → Marks s source sink settings answer
+      → (answer ≡ Ok value → Delivers s source sink value (atℤ settings)) × (Delivers s source sink value (atℤ settings) → answer ≡ Ok value)
   mark_exactly value settings answer long h = (
     λ e. settings_and_levels.marked_carries s source sink settings value (subst (Marks s source sink settings) e h),
     λ d. settings_and_levels.carries_marked s source sink settings value answer asked.sheet asked.ends long d h,
   )
 
-  pub marked_earns : (value v : ℤ) (settings : List ℤ) (n : ℕ) → edges_of s ≤ length settings → Marks s source sink settings (mark.Value v)
+  pub marked_earns : (value v : ℤ) (settings : List ℤ) (n : ℕ) → edges_of s ≤ length settings → Marks s source sink settings (Ok v)
       → Earns (v ≡ value) 4 n → Earns (Delivers s source sink value (atℤ settings)) 4 n
   marked_earns value v settings n long h e =
-      let exactly = mark_exactly value settings (mark.Value v) long h in
-      earns_by 4 n (λ q. exactly.0 (ap mark.Value q)) (λ d. mark_value (exactly.1 d)) e
+      let exactly = mark_exactly value settings (Ok v) long h in
+      earns_by 4 n (λ q. exactly.0 (ap Ok q)) (λ d. let same : Ok v ≡ Ok value = exactly.1 d in cc) e
 
-  pub refused_earns : (value : ℤ) (k p : ℕ) (settings : List ℤ) → edges_of s ≤ length settings → Marks s source sink settings (mark.Refused k p)
+  pub refused_earns : (value : ℤ) (r : Refusal) (settings : List ℤ) → edges_of s ≤ length settings → Marks s source sink settings (Err r)
       → Earns (Delivers s source sink value (atℤ settings)) 4 0
-  refused_earns value k p settings long h = inr (λ d. not_refused k p value ((mark_exactly value settings (mark.Refused k p) long h).1 d), refl)
+  refused_earns value r settings long h = inr (λ d. let same : Err r ≡ Ok value = (mark_exactly value settings (Err r) long h).1 d in cc, refl)
 
 -- ── Totals by node, with room for 513 subtotals ──
 abbrev no_totals : List ℤ
@@ -135,13 +120,13 @@ module _ (s set : List ℕ) (accepted : NoneOf (sheet_checks s)) (long : words_f
       let out : length no_totals < count (nodes_of s) (member set) → ⊥ = λ l. omega (arith, length-replicate 513 (pos 0), members, few.0) in
       none_append (sheet_checks s) _ accepted (neither words out, tt)
 
-  pub total_is : (out' : List ℤ) (t : ℤ) → GivesTotals s set no_totals out' (totals.Total t)
+  pub total_is : (out' : List ℤ) (t : ℤ) → GivesTotals s set no_totals out' (Ok t)
       → t ≡ cut (sheet_map s) (capacity_of s) (nodes_in (nodes_of s) set)
   total_is out' t h =
       totals_by_node.totals_any_set s set no_totals out' t (nodes_in (nodes_of s) set) (λ v l. sym (nodes-in (nodes_of s) set v l)) h
 
-  pub total_never_refused : (out' : List ℤ) (k p : ℕ) → GivesTotals s set no_totals out' (totals.Refused k p) → ⊥
-  total_never_refused out' k p h = first_none (totals_checks s set no_totals) k p h.0 total_room
+  pub total_never_refused : (out' : List ℤ) (r : Refusal) → GivesTotals s set no_totals out' (Err r) → ⊥
+  total_never_refused out' r h = first_none (totals_checks s set no_totals) r.number r.place h.0 total_room
 
 -- ── claim and set, from the numbers to the drawing ──
 bound_by : (S : ℕ → Bool) (source sink : ℕ) (value : ℤ) (from into : Bool) → S source ≡ from → S sink ≡ into
@@ -161,9 +146,9 @@ module _ (s : List ℕ) (source sink : ℕ) (S : ℕ → Bool) (total : ℤ) (fr
       subst (λ t. ProvesBy t value from into) (sym is-total)
       (subst (λ b. cut (sheet_map s) (capacity_of s) S <ℤ b) (bound_by S source sink value from into at_source at_sink) h)
 
-  pub last_six_of : (largest claim : Delivery) (x : ℕ → ℤ) (n : ℕ) → LastSixBy largest claim total from into n
+  pub last_six_of : (largest claim : Option ℤ) (x : ℕ → ℤ) (n : ℕ) → LastSixBy largest claim total from into n
       → LastSix s source sink largest (record { settings = x; claim = claim; set = S }) n
-  last_six_of (Value v) claim x n h =
+  last_six_of (Some v) claim x n h =
       (h.0, h.1, h.2, earns_by 3 h.1 (proves (v +ℤ pos 1)) (proved (v +ℤ pos 1)) h.3, h.4)
   last_six_of None claim x n h =
       earns_by 6 n
@@ -179,7 +164,7 @@ ends_inside nodes source sink none =
     let b : nodes ≤ sink → ⊥ = λ l. none.0 (inr l) in
     (omega arith, omega arith)
 
-pub paper_earns : (s : List ℕ) (source sink : ℕ) (value : ℤ) (largest claim : Delivery) (settings : List ℤ) (set : List ℕ) (total : ℤ) (from into : Bool)
+pub paper_earns : (s : List ℕ) (source sink : ℕ) (value : ℤ) (largest claim : Option ℤ) (settings : List ℤ) (set : List ℕ) (total : ℤ) (from into : Bool)
     (a b : ℕ) → Asked s source sink
     → Earns (Delivers s source sink value (atℤ settings)) 4 a → total ≡ cut (sheet_map s) (capacity_of s) (nodes_in (nodes_of s) set)
     → from ≡ member set source → into ≡ member set sink → LastSixBy largest claim total from into b
@@ -236,12 +221,12 @@ class_room nodes edges n kinds settings sets points none =
     (omega arith, omega arith, omega arith, omega arith, omega arith)
 
 -- of the numbers that a function was given
-pub question_as : (nodes nodes' source source' sink sink' : ℕ) (value value' : ℤ) (r v : Verdict)
+pub question_as : (nodes nodes' source source' sink sink' : ℕ) (value value' : ℤ) (r v : Result Unit Refusal)
     → Judged (end_checks nodes source sink ++ value_checks value) r → nodes ≡ nodes' → source ≡ source' → sink ≡ sink' → value ≡ value' → r ≡ v
     → Judged (end_checks nodes' source' sink' ++ value_checks value') v
 question_as nodes nodes' source source' sink sink' value value' r v h a b c d e = rw (a, b, c, d, e) at h
 
-pub class_as : (nodes nodes' edges edges' n kinds settings sets points : ℕ) (r v : Verdict)
+pub class_as : (nodes nodes' edges edges' n kinds settings sets points : ℕ) (r v : Result Unit Refusal)
     → Judged (class_checks nodes edges n kinds settings sets points) r → nodes ≡ nodes' → edges ≡ edges' → r ≡ v
     → Judged (class_checks nodes' edges' n kinds settings sets points) v
 class_as nodes nodes' edges edges' n kinds settings sets points r v h a b e = rw (a, b, e) at h
@@ -253,7 +238,7 @@ sheet_refused s source sink value n kinds settings sets points k p h = first_lef
 
 -- a value that came through its bits
 pub examined_as : (s : List ℕ) (source sink : ℕ) (value value' : ℤ) (claims : List ℤ) (kinds : List ℕ) (settings : List ℤ) (sets points points' : List ℕ)
-    (class : Class) → value' ≡ value → Examines s source sink value' claims kinds settings sets points points' class
+    (class : Result (Option ClassFigures) Refusal) → value' ≡ value → Examines s source sink value' claims kinds settings sets points points' class
     → Examines s source sink value claims kinds settings sets points points' class
 examined_as s source sink value value' claims kinds settings sets points points' class e h =
     subst (λ v. Examines s source sink v claims kinds settings sets points points' class) e h

@@ -1,7 +1,7 @@
 -- A paper judged by numbers: tests of the machine as facts, case by case of which ends the set holds; what earns what.
 use mathlib.Core.Path.{◌≡◌, refl, sym, ◌∙◌, ap, subst}
 use mathlib.Core.Logic.{inl, inr}
-use mathlib.Core.Bool.{Bool, true, false, cond, not, true≢false}
+use mathlib.Core.Bool.{Bool, true, false, cond, not}
 use Prim.Native.Nat.{ℕ, ◌≤◌}
 use native.Mathlib.Omega.{arith}
 use lib.Dec.{eqb}
@@ -17,8 +17,7 @@ use Rattle.refusals.specs.Order.{Decides}
 use Rattle.refusals.proofs.Decisions.{decides_by}
 use Rattle.desk.specs.Paper.{claim_of, Earns}
 use Rattle.desk.specs.inner.Judged.{IsValue, ProvesBy, NoneBy, ValuePoints, NonePoints, LastSixBy}
-use Rattle.desk.specs.declared.Delivery.{Delivery}
-use Rattle.desk.specs.declared.Delivery.TheVariants.{Value, None}
+use Rattle.std.specs.Prelude.{Option, Some, None}
 
 -- ── tests ──
 decides_less : (x y : ℤ) (r : Bool) → r ≡ lt_z x y → Decides (x <ℤ y) r
@@ -77,47 +76,33 @@ earns_one k n m (inr h) (inl g) = absurd (h.0 g.0)
 earns_one k n m (inr h) (inr g) = h.1 ∙ sym g.1
 
 -- ── claim and set ──
-pub judged_at_most : (largest claim : Delivery) (total : ℤ) (from into : Bool) (n : ℕ) → LastSixBy largest claim total from into n → n ≤ 6
-judged_at_most (Value v) claim total from into n h =
+pub judged_at_most : (largest claim : Option ℤ) (total : ℤ) (from into : Bool) (n : ℕ) → LastSixBy largest claim total from into n → n ≤ 6
+judged_at_most (Some v) claim total from into n h =
     omega (arith, earns_at_most 3 h.0 h.2, earns_at_most 3 h.1 h.3, h.4)
 judged_at_most None claim total from into n h = earns_at_most 6 n h
-
-pub no_value : (v : ℤ) → None ≡ Value v → ⊥
-no_value v e = true≢false (ap is_none e)
-  where
-    is_none : Delivery → Bool
-    is_none None = true
-    is_none (Value w) = false
-
-pub value_one : {v w : ℤ} → Value v ≡ Value w → v ≡ w
-value_one {v} e = ap number e
-  where
-    number : Delivery → ℤ
-    number (Value u) = u
-    number None = v
 
 -- ── a paper's claim ──
 pub claim_none : (kind : ℕ) (number : ℤ) → kind ≡ 1 → None ≡ claim_of kind number
 unfolding claim_of
-claim_none kind number e = ap (λ b. cond b None (Value number)) (sym (eqb_true kind 1 e))
+claim_none kind number e = ap (λ b. cond b None (Some number)) (sym (eqb_true kind 1 e))
 
-pub claim_value : (kind : ℕ) (number : ℤ) → (kind ≡ 1 → ⊥) → Value number ≡ claim_of kind number
+pub claim_value : (kind : ℕ) (number : ℤ) → (kind ≡ 1 → ⊥) → Some number ≡ claim_of kind number
 unfolding claim_of
-claim_value kind number n = ap (λ b. cond b None (Value number)) (sym (eqb_false kind 1 n))
+claim_value kind number n = ap (λ b. cond b None (Some number)) (sym (eqb_false kind 1 n))
 
-pub claim_decides : (v w : ℤ) (claim : Delivery) (r : Bool) → claim ≡ Value w → SFits w32 w → SFits w32 v → r ≡ eqb (of_z w32 w) (of_z w32 v)
+pub claim_decides : (v w : ℤ) (claim : Option ℤ) (r : Bool) → claim ≡ Some w → SFits w32 w → SFits w32 v → r ≡ eqb (of_z w32 w) (of_z w32 v)
     → Decides (IsValue claim v) r
-claim_decides v w claim true is f g e = is ∙ ap Value (same_of_test f g (sym e))
-claim_decides v w claim false is f g e = λ q. apart_of_test f g (sym e) (value_one (sym is ∙ q))
+claim_decides v w claim true is f g e = is ∙ ap Some (same_of_test f g (sym e))
+claim_decides v w claim false is f g e = λ q. apart_of_test f g (sym e) (let same : Some w ≡ Some v = sym is ∙ q in cc)
 
 -- ── numbers that came through their bits ──
-pub of_value : (largest : Delivery) (v v' : ℤ) (claim : Delivery) (total total' : ℤ) (from into : Bool) (n : ℕ)
-    → largest ≡ Value v → v' ≡ v → total' ≡ total → ValuePoints v' claim total' from into n → LastSixBy largest claim total from into n
+pub of_value : (largest : Option ℤ) (v v' : ℤ) (claim : Option ℤ) (total total' : ℤ) (from into : Bool) (n : ℕ)
+    → largest ≡ Some v → v' ≡ v → total' ≡ total → ValuePoints v' claim total' from into n → LastSixBy largest claim total from into n
 of_value largest v v' claim total total' from into n is e f h =
     subst (λ d. LastSixBy d claim total from into n) (sym is)
     (subst (λ w. ValuePoints w claim total from into n) e (subst (λ t. ValuePoints v' claim t from into n) f h))
 
-pub of_none : (largest claim : Delivery) (total total' : ℤ) (from into : Bool) (n : ℕ)
+pub of_none : (largest claim : Option ℤ) (total total' : ℤ) (from into : Bool) (n : ℕ)
     → largest ≡ None → total' ≡ total → NonePoints claim total' from into n → LastSixBy largest claim total from into n
 of_none largest claim total total' from into n is f h =
     subst (λ d. LastSixBy d claim total from into n) (sym is) (subst (λ t. NonePoints claim t from into n) f h)

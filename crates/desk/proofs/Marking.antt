@@ -15,7 +15,8 @@ use Rattle.arrays.specs.At.{at, atℤ}
 use Rattle.records.specs.Sheet.{nodes_of, edges_of}
 use Rattle.pages.specs.Stretch.{SameFrom}
 use Rattle.desk.specs.Paper.{claim_of, nodes_in, paper_of, Points}
-use Rattle.desk.specs.declared.Delivery.{Delivery}
+use Rattle.std.specs.Prelude.{Option, min, max}
+use Rattle.desk.specs.inner.Extremes.{Extremes}
 
 -- ── one more ──
 pub next_below : (P : ℕ → Type 0) (q : ℕ) → ((j : ℕ) → j < q → P j) → P q → (j : ℕ) → j < q + 1 → P j
@@ -28,6 +29,41 @@ next_below P q before here j l = go (ℕ_discrete j q)
 pub sum_next : (q : ℕ) (f : ℕ → ℕ) → sumℕ (q + 1) f ≡ sumℕ q f + f q
 unfolding sum
 sum_next q f = ap (λ k. sumℕ k f) (add-one q)
+
+pub sum_none : (f : ℕ → ℕ) → 0 ≡ sumℕ 0 f
+unfolding sum
+sum_none f = refl
+
+-- ── least and greatest ──
+pub extremes_one : (f : ℕ → ℕ) → Extremes 1 f (f 0) (f 0)
+extremes_one f = record {
+  least_reached = (0, omega arith, refl);
+  least_below = λ q l. omega (arith, only q l);
+  greatest_reached = (0, omega arith, refl);
+  greatest_above = λ q l. omega (arith, only q l);
+}
+  where
+    only : (q : ℕ) → q < 1 → f q ≡ f 0
+    only q l = let e : q ≡ 0 = omega arith in ap f e
+
+pub extremes_next : (f : ℕ → ℕ) (q a b a' b' : ℕ) → a' ≡ min a (f q) → b' ≡ max b (f q) → Extremes q f a b → Extremes (q + 1) f a' b'
+extremes_next f q a b a' b' low high h = record {
+  least_reached = least (ℕ_discrete a' a);
+  least_below = next_below (λ j. a' ≤ f j) q (λ j l. omega (arith, low, h.least_below j l)) (omega (arith, low));
+  greatest_reached = greatest (ℕ_discrete b' b);
+  greatest_above = next_below (λ j. f j ≤ b') q (λ j l. omega (arith, high, h.greatest_above j l)) (omega (arith, high));
+}
+  where
+    least : Dec (a' ≡ a) → (j : ℕ) × (j < q + 1) × (f j ≡ a')
+    least (yes e) = let r = h.least_reached in (r.0, omega (arith, r.1), r.2 ∙ sym e)
+    least (no n) = (q, omega arith, omega (arith, low, n))
+
+    greatest : Dec (b' ≡ b) → (j : ℕ) × (j < q + 1) × (f j ≡ b')
+    greatest (yes e) = let r = h.greatest_reached in (r.0, omega (arith, r.1), r.2 ∙ sym e)
+    greatest (no n) = (q, omega arith, omega (arith, high, n))
+
+pub extremes_of : (f : ℕ → ℕ) (q n : ℕ) {a b : ℕ} → q ≡ n → Extremes q f a b → Extremes n f a b
+extremes_of f q n {a} {b} e h = subst (λ k. Extremes k f a b) e h
 
 -- ── where stretch i ends ──
 pub ends_before : (size i n : ℕ) → i < n → i * size + size ≤ n * size
@@ -64,8 +100,8 @@ halfway_turn P old q now n h room here few = record {
     other j l = get_or-set_other now q j n 0 (λ e. omega arith)
 
 -- the paper that was marked is paper q of the class
-pub turned : (s : List ℕ) (source sink : ℕ) (value value' : ℤ) (largest : Delivery) (claims : List ℤ) (kinds : List ℕ) (settings : List ℤ) (sets : List ℕ)
-    (q edges words long wide : ℕ) (claim : Delivery) (n : ℕ)
+pub turned : (s : List ℕ) (source sink : ℕ) (value value' : ℤ) (largest : Option ℤ) (claims : List ℤ) (kinds : List ℕ) (settings : List ℤ) (sets : List ℕ)
+    (q edges words long wide : ℕ) (claim : Option ℤ) (n : ℕ)
     → edges ≡ edges_of s → words ≡ words_for (nodes_of s) → long ≡ edges → wide ≡ words → claim ≡ claim_of (at kinds q) (atℤ claims q) → value' ≡ value
     → Points s source sink value' largest
     (record { settings = atℤ (take long (drop (q * edges) settings)); claim = claim; set = nodes_in (nodes_of s) (take wide (drop (q * words) sets)) }) n
@@ -112,7 +148,7 @@ part_long q size long l least e f room =
     omega arith
 
 -- after the last turn
-pub all_marked : (s : List ℕ) (source sink : ℕ) (value value' : ℤ) (largest : Delivery) (claims : List ℤ) (kinds : List ℕ) (settings : List ℤ) (sets : List ℕ)
+pub all_marked : (s : List ℕ) (source sink : ℕ) (value value' : ℤ) (largest : Option ℤ) (claims : List ℤ) (kinds : List ℕ) (settings : List ℤ) (sets : List ℕ)
     (old now : List ℕ) (q : ℕ) → q ≡ length claims → value' ≡ value
     → Halfway (λ j n. Points s source sink value' largest (paper_of s claims kinds settings sets j) n) old q now
     → ((j : ℕ) → j < length claims → Points s source sink value largest (paper_of s claims kinds settings sets j) (at now j))

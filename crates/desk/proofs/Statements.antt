@@ -1,7 +1,7 @@
 -- The printed statements of the exam desk.
 use mathlib.Core.Path.{◌≡◌, refl, sym, ◌∙◌, ap, ap₂, subst}
 use mathlib.Core.Logic.{◌⊎◌, ◌↔◌, inl, inr}
-use mathlib.Core.Bool.{Bool, true, false, ◌&&◌, true≢false}
+use mathlib.Core.Bool.{true, false, ◌&&◌}
 use mathlib.Core.List.{List}
 use Prim.Native.Nat.{ℕ, zero, suc, ◌+◌, ◌*◌, ◌-◌, ◌≤◌, ◌<◌}
 use native.Mathlib.Omega.{arith}
@@ -21,41 +21,39 @@ use Rattle.arrays.specs.At.{at, atℤ}
 use Rattle.records.specs.Sheet.{nodes_of, edges_of}
 use Rattle.sheets.specs.Open.{sheet_checks}
 use Rattle.questions.specs.Question.{end_checks, value_checks}
-use Rattle.questions.specs.declared.LargestAnswer.TheVariants as largest
 use Rattle.analyser.proofs.Statements.{possible_and_impossible}
 use Rattle.desk.specs.Paper.{Paper, nodes_in, paper_of, IsLargest, LastSix, Points}
 use Rattle.desk.specs.Class.{examine_checks, Examines}
 use Rattle.desk.specs.Statements.{ExamDesk}
-use Rattle.desk.specs.declared.Delivery.{Delivery}
-use Rattle.desk.specs.declared.Delivery.TheVariants.{Value, None}
-use Rattle.desk.specs.declared.Class.{Class}
-use Rattle.desk.specs.declared.Class.TheVariants.{Empty, Marked, Refused}
+use Rattle.std.specs.Prelude.{Option, Some, None, Result, Ok, Err}
+use Rattle.refusals.specs.declared.Refusal.{Refusal}
+use Rattle.desk.specs.declared.ClassFigures.{ClassFigures}
 use Rattle.desk.proofs.Judging.{earns_one, earns_at_most}
 use Rattle.desk.proofs.Asking.{mark_exactly, class_room}
 
 -- ── points ──
-largest_one : (s : List ℕ) (source sink : ℕ) (d e : Delivery) → IsLargest s source sink d → IsLargest s source sink e → d ≡ e
-largest_one s source sink (Value v) (Value w) h g = ap Value (le_antisym (g.1 v h.0) (h.1 w g.0))
-largest_one s source sink (Value v) None h g = absurd (g v h.0.0 h.0.1)
-largest_one s source sink None (Value w) h g = absurd (h w g.0.0 g.0.1)
+largest_one : (s : List ℕ) (source sink : ℕ) (d e : Option ℤ) → IsLargest s source sink d → IsLargest s source sink e → d ≡ e
+largest_one s source sink (Some v) (Some w) h g = ap Some (le_antisym (g.1 v h.0) (h.1 w g.0))
+largest_one s source sink (Some v) None h g = absurd (g v h.0.0 h.0.1)
+largest_one s source sink None (Some w) h g = absurd (h w g.0.0 g.0.1)
 largest_one s source sink None None h g = refl
 
-last_six_one : (s : List ℕ) (source sink : ℕ) (d : Delivery) (paper : Paper) (n m : ℕ)
+last_six_one : (s : List ℕ) (source sink : ℕ) (d : Option ℤ) (paper : Paper) (n m : ℕ)
     → LastSix s source sink d paper n → LastSix s source sink d paper m → n ≡ m
-last_six_one s source sink (Value v) paper n m h g =
+last_six_one s source sink (Some v) paper n m h g =
     h.4 ∙ ap₂ ◌+◌ (earns_one 3 _ _ h.2 g.2) (earns_one 3 _ _ h.3 g.3) ∙ sym g.4
 last_six_one s source sink None paper n m h g = earns_one 6 n m h g
 
-last_six_few : (s : List ℕ) (source sink : ℕ) (d : Delivery) (paper : Paper) (n : ℕ) → LastSix s source sink d paper n → n ≤ 6
-last_six_few s source sink (Value v) paper n h = omega (arith, h.4, earns_at_most 3 h.0 h.2, earns_at_most 3 h.1 h.3)
+last_six_few : (s : List ℕ) (source sink : ℕ) (d : Option ℤ) (paper : Paper) (n : ℕ) → LastSix s source sink d paper n → n ≤ 6
+last_six_few s source sink (Some v) paper n h = omega (arith, h.4, earns_at_most 3 h.0 h.2, earns_at_most 3 h.1 h.3)
 last_six_few s source sink None paper n h = earns_at_most 6 n h
 
-points_one : (s : List ℕ) (source sink : ℕ) (value : ℤ) (d : Delivery) (paper : Paper) (n m : ℕ)
+points_one : (s : List ℕ) (source sink : ℕ) (value : ℤ) (d : Option ℤ) (paper : Paper) (n m : ℕ)
     → Points s source sink value d paper n → Points s source sink value d paper m → n ≡ m
 points_one s source sink value d paper n m h g =
     h.4 ∙ ap₂ ◌+◌ (earns_one 4 _ _ h.2 g.2) (last_six_one s source sink d paper h.1 g.1 h.3 g.3) ∙ sym g.4
 
-at_most_ten : (s : List ℕ) (source sink : ℕ) (value : ℤ) (d : Delivery) (paper : Paper) (n : ℕ) → Points s source sink value d paper n → n ≤ 10
+at_most_ten : (s : List ℕ) (source sink : ℕ) (value : ℤ) (d : Option ℤ) (paper : Paper) (n : ℕ) → Points s source sink value d paper n → n ≤ 10
 at_most_ten s source sink value d paper n h =
     omega (arith, h.4, earns_at_most 4 h.0 h.2, last_six_few s source sink d paper h.1 h.3)
 
@@ -88,26 +86,27 @@ few_papers s source sink value n kinds settings sets points none =
     (class_room (nodes_of s) (edges_of s) n kinds settings sets points (append_none (value_checks value) _ rest).1).0
 
 module _ (s : List ℕ) (source sink : ℕ) (value : ℤ) (claims : List ℤ) (kinds : List ℕ) (settings : List ℤ) (sets points points' : List ℕ)
-    (number total least greatest : ℕ) (h : Examines s source sink value claims kinds settings sets points points' (Marked number total least greatest)) where
-  each_marked : (d : Delivery) → IsLargest s source sink d
+    (m : ClassFigures) (h : Examines s source sink value claims kinds settings sets points points' (Ok (Some m))) where
+  each_marked : (d : Option ℤ) → IsLargest s source sink d
       → (q : ℕ) → q < length claims → Points s source sink value d (paper_of s claims kinds settings sets q) (at points' q)
   each_marked d is q l =
       subst (λ e. Points s source sink value e (paper_of s claims kinds settings sets q) (at points' q))
       (largest_one s source sink h.1.0 d h.1.1 is) (h.1.2 q l)
 
-  figures_bounded : (1 ≤ number) × (number ≤ 1000) × (least ≤ greatest) × (greatest ≤ 10) × (number * least ≤ total) × (total ≤ number * greatest)
+  figures_bounded : (1 ≤ m.number) × (m.number ≤ 1000) × (m.least ≤ m.greatest) × (m.greatest ≤ 10) × (m.number * m.least ≤ m.sum)
+      × (m.sum ≤ m.number * m.greatest)
   figures_bounded =
       let f = h.3 in
       let top = f.greatest_reached in
       let ten = at_most_ten s source sink value h.1.0 (paper_of s claims kinds settings sets top.0) (at points' top.0) (h.1.2 top.0 top.1) in
-      let low = sum_above (length claims) (at points') least f.least_below in
-      let high = sum_below (length claims) (at points') greatest f.greatest_above in (
+      let low = sum_above (length claims) (at points') m.least f.least_below in
+      let high = sum_below (length claims) (at points') m.greatest f.greatest_above in (
         omega (arith, f.number_is, top.1),
         omega (arith, f.number_is, few_papers s source sink value _ _ _ _ _ h.0),
         omega (arith, f.least_below top.0 top.1, top.2),
         omega (arith, ten, top.2),
-        subst (λ k. k * least ≤ total) (sym f.number_is) (omega (arith, low, f.sum_is)),
-        subst (λ k. total ≤ k * greatest) (sym f.number_is) (omega (arith, high, f.sum_is)),
+        subst (λ k. k * m.least ≤ m.sum) (sym f.number_is) (omega (arith, low, f.sum_is)),
+        subst (λ k. m.sum ≤ k * m.greatest) (sym f.number_is) (omega (arith, high, f.sum_is)),
       )
 
 -- least and greatest of the same points
@@ -120,18 +119,18 @@ greatest_one : (n : ℕ) (f g : ℕ → ℕ) → ((q : ℕ) → q < n → f q �
 greatest_one n f g same greatest greatest' (q, l, e) above = omega (arith, e, same q l, above q l)
 
 class_one : (s : List ℕ) (source sink : ℕ) (value : ℤ) (claims : List ℤ) (kinds : List ℕ) (settings : List ℤ) (sets points points' points'' : List ℕ)
-    (number total least greatest number' total' least' greatest' : ℕ)
-    → Examines s source sink value claims kinds settings sets points points' (Marked number total least greatest)
-    → Examines s source sink value claims kinds settings sets points points'' (Marked number' total' least' greatest')
-    → (number ≡ number') × (total ≡ total') × (least ≡ least') × (greatest ≡ greatest') × (points' ≡ points'')
-class_one s source sink value claims kinds settings sets points points' points'' number total least greatest number' total' least' greatest' h g =
+    (m m' : ClassFigures)
+    → Examines s source sink value claims kinds settings sets points points' (Ok (Some m))
+    → Examines s source sink value claims kinds settings sets points points'' (Ok (Some m'))
+    → (m.number ≡ m'.number) × (m.sum ≡ m'.sum) × (m.least ≡ m'.least) × (m.greatest ≡ m'.greatest) × (points' ≡ points'')
+class_one s source sink value claims kinds settings sets points points' points'' m m' h g =
     let n = length claims in
     let f = h.3 in
     let e = g.3 in
-    let low = least_one n (at points') (at points'') same least least' f.least_reached e.least_below in
-    let low' = least_one n (at points'') (at points') (λ q l. sym (same q l)) least' least e.least_reached f.least_below in
-    let high = greatest_one n (at points') (at points'') same greatest greatest' f.greatest_reached e.greatest_above in
-    let high' = greatest_one n (at points'') (at points') (λ q l. sym (same q l)) greatest' greatest e.greatest_reached f.greatest_above in (
+    let low = least_one n (at points') (at points'') same m.least m'.least f.least_reached e.least_below in
+    let low' = least_one n (at points'') (at points') (λ q l. sym (same q l)) m'.least m.least e.least_reached f.least_below in
+    let high = greatest_one n (at points') (at points'') same m.greatest m'.greatest f.greatest_reached e.greatest_above in
+    let high' = greatest_one n (at points'') (at points') (λ q l. sym (same q l)) m'.greatest m.greatest e.greatest_reached f.greatest_above in (
       f.number_is ∙ sym e.number_is,
       f.sum_is ∙ sum_ext Naturals n (at points') (at points'') same ∙ sym e.sum_is,
       omega arith,
@@ -142,7 +141,7 @@ class_one s source sink value claims kinds settings sets points points' points''
     same : (q : ℕ) → q < length claims → at points' q ≡ at points'' q
     same q l =
         points_one s source sink value h.1.0 (paper_of s claims kinds settings sets q) (at points' q) (at points'' q) (h.1.2 q l)
-        (each_marked s source sink value claims kinds settings sets points points'' number' total' least' greatest' g h.1.0 h.1.1 q l)
+        (each_marked s source sink value claims kinds settings sets points points'' m' g h.1.0 h.1.1 q l)
 
     behind : (i : ℕ) → length claims ≤ i → (j : ℕ) → i ≡ length claims + j → at points' i ≡ at points'' i
     behind i l j e =
@@ -156,23 +155,16 @@ class_one s source sink value claims kinds settings sets points points' points''
         go (inl t) = same i (ltb→lt i (length claims) (T_of t))
         go (inr t) = let l = nltb→le i (length claims) (rw t tt) in behind i l (i - length claims) (omega arith)
 
-not-empty : (number total least greatest : ℕ) → Marked number total least greatest ≡ Empty → ⊥
-not-empty number total least greatest e = true≢false (ap is_marked e)
-  where
-    is_marked : Class → Bool
-    is_marked (Marked a b c d) = true
-    is_marked Empty = false
-    is_marked (Refused k p) = false
-
-empty_exactly : (s : List ℕ) (source sink : ℕ) (value : ℤ) (claims : List ℤ) (kinds : List ℕ) (settings : List ℤ) (sets points points' : List ℕ) (class : Class)
+empty_exactly : (s : List ℕ) (source sink : ℕ) (value : ℤ) (claims : List ℤ) (kinds : List ℕ) (settings : List ℤ) (sets points points' : List ℕ)
+    (class : Result (Option ClassFigures) Refusal)
     → NoneOf (examine_checks s source sink value (length claims) (length kinds) (length settings) (length sets) (length points))
-    → Examines s source sink value claims kinds settings sets points points' class → (class ≡ Empty) ↔ (length claims ≡ 0)
-empty_exactly s source sink value claims kinds settings sets points points' Empty none h = (λ e. h.1, λ e. refl)
-empty_exactly s source sink value claims kinds settings sets points points' (Marked number total least greatest) none h = (
-  λ e. absurd (not-empty number total least greatest e),
+    → Examines s source sink value claims kinds settings sets points points' class → (class ≡ Ok None) ↔ (length claims ≡ 0)
+empty_exactly s source sink value claims kinds settings sets points points' (Ok None) none h = (λ e. h.1, λ e. refl)
+empty_exactly s source sink value claims kinds settings sets points points' (Ok (Some m)) none h = (
+  λ e. let same : Ok (Some m) ≡ Ok None = e in cc,
   λ e. absurd (omega (arith, h.3.least_reached.1)),
 )
-empty_exactly s source sink value claims kinds settings sets points points' (Refused k p) none h = absurd (first_none _ k p h.0 none)
+empty_exactly s source sink value claims kinds settings sets points points' (Err r) none h = absurd (first_none _ r.number r.place h.0 none)
 
 pub exam_desk : ExamDesk
 exam_desk = record {
@@ -186,11 +178,11 @@ exam_desk = record {
     possible_and_impossible.nothing_greater s source sink v flows flows' set set' h,
   );
   largest_none = λ s source sink flows flows' set set' h.
-      (possible_and_impossible.none_exactly s source sink flows flows' set set' largest.None h.0 h).0 refl;
+      (possible_and_impossible.none_exactly s source sink flows flows' set set' (Ok None) h.0 h).0 refl;
   past_last_node = past_last_node;
-  never_refused = λ s source sink value claims kinds settings sets points points' none k p h. first_none _ k p h.0 none;
-  each_marked = λ s source sink value claims kinds settings sets points points' number total least greatest d is h.
-      each_marked s source sink value claims kinds settings sets points points' number total least greatest h d is;
+  never_refused = λ s source sink value claims kinds settings sets points points' none r h. first_none _ r.number r.place h.0 none;
+  each_marked = λ s source sink value claims kinds settings sets points points' m d is h.
+      each_marked s source sink value claims kinds settings sets points points' m h d is;
   figures_bounded = figures_bounded;
   empty_exactly = empty_exactly;
   class_one = class_one;

@@ -2,7 +2,7 @@
 -- number of papers, the sum, least and greatest points, and the mean as sum over number, undivided. An empty class has no least, greatest or mean. Sheet and
 -- question refusals come first, and a wrong paper is marked, never refused; 32, more than 1,000 papers, stands after them, then 16 for slices too short for the
 -- class."
-use Rattle.std.specs.Prelude.{ℕ, ◌*◌, ◌≤◌, ◌<◌, ◌≡◌, ◌⊎◌, List, [], ◌∷◌, ◌++◌, length, ℤ}
+use Rattle.std.specs.Prelude.{ℕ, ◌*◌, ◌≤◌, ◌<◌, ◌≡◌, ◌⊎◌, List, [], ◌∷◌, ◌++◌, length, ℤ, Option, Some, None, Result, Ok, Err}
 use Rattle.integers.specs.Sum.{sumℕ}
 use Rattle.refusals.specs.Order.{Check, ◌when◌, NoneOf, FirstOf}
 use Rattle.flows.specs.ProvingSet.{words_for}
@@ -12,9 +12,8 @@ use Rattle.sheets.specs.Open.{sheet_checks}
 use Rattle.questions.specs.Question.{end_checks, value_checks}
 use Rattle.pages.specs.Stretch.{SameFrom}
 use Rattle.desk.specs.Paper.{paper_of, IsLargest, Points}
-use Rattle.desk.specs.declared.Delivery.{Delivery}
-use Rattle.desk.specs.declared.Class.{Class}
-use Rattle.desk.specs.declared.Class.TheVariants.{Empty, Marked, Refused}
+use Rattle.refusals.specs.declared.Refusal.{Refusal}
+use Rattle.desk.specs.declared.ClassFigures.{ClassFigures}
 
 -- 32 and 16 of n papers, by the lengths of the slices alone: a kind for each claim, the stretches of settings and sets, a place for each paper's points
 unfoldable pub class_checks : (nodes edges n kinds settings sets points : ℕ) → List Check
@@ -38,20 +37,20 @@ pub record Figures (n : ℕ) (points : ℕ → ℕ) (number sum least greatest :
   pub greatest_reached : (q : ℕ) × (q < n) × (points q ≡ greatest)
   pub greatest_above : (q : ℕ) → q < n → points q ≤ greatest
 
--- What a class of claims comes to. Empty: no paper, and no figures. Marked: the points of paper q at place q of the slice lent for them, which is left as it
+-- What a class of claims comes to. None: no paper, and no figures. Some: the points of paper q at place q of the slice lent for them, which is left as it
 -- was behind the last, and the figures of those. Refused: the slice as it was.
 abbrev pub Examines : List ℕ → (source sink : ℕ) → ℤ → (claims : List ℤ) (kinds : List ℕ) (settings : List ℤ) (sets : List ℕ) → (points points' : List ℕ)
-    → Class → Type 0
-Examines s source sink value claims kinds settings sets points points' Empty =
+    → Result (Option ClassFigures) Refusal → Type 0
+Examines s source sink value claims kinds settings sets points points' (Ok None) =
     NoneOf (examine_checks s source sink value (length claims) (length kinds) (length settings) (length sets) (length points))
     × (length claims ≡ 0)
     × (points' ≡ points)
-Examines s source sink value claims kinds settings sets points points' (Marked number sum least greatest) =
+Examines s source sink value claims kinds settings sets points points' (Ok (Some m)) =
     NoneOf (examine_checks s source sink value (length claims) (length kinds) (length settings) (length sets) (length points))
-    × ((largest : Delivery) × IsLargest s source sink largest
+    × ((largest : Option ℤ) × IsLargest s source sink largest
     × ((q : ℕ) → q < length claims → Points s source sink value largest (paper_of s claims kinds settings sets q) (at points' q)))
     × SameFrom (length claims) points points'
-    × Figures (length claims) (at points') number sum least greatest
-Examines s source sink value claims kinds settings sets points points' (Refused k p) =
-    FirstOf (examine_checks s source sink value (length claims) (length kinds) (length settings) (length sets) (length points)) k p
+    × Figures (length claims) (at points') m.number m.sum m.least m.greatest
+Examines s source sink value claims kinds settings sets points points' (Err r) =
+    FirstOf (examine_checks s source sink value (length claims) (length kinds) (length settings) (length sets) (length points)) r.number r.place
     × (points' ≡ points)

@@ -16,40 +16,19 @@ ghost use Rattle.pages.specs.Stretch.{SameFrom};
 ghost use Rattle.analyser.specs.Statements.{Delivers};
 ghost use Rattle.desk.specs.Paper.{claim_of, nodes_in, paper_of, Earns, IsLargest, Points};
 ghost use Rattle.desk.specs.Class.{class_checks, Examines};
-ghost use Rattle.desk.specs.inner.Judged.{IsValue, IsNone, ProvesBy, NoneBy, ValuePoints, NonePoints, LastSixBy};
+ghost use Rattle.desk.specs.inner.Judged.{IsValue, ProvesBy, NoneBy, ValuePoints, NonePoints, LastSixBy};
 ghost use Rattle.desk.specs.inner.Asked.{Asked};
+ghost use Rattle.desk.specs.inner.Extremes.{Extremes};
 
-use analyser::CountsAnswer;
-use questions::{LargestAnswer, MarkAnswer};
-use refusals::Verdict;
-use totals::TotalsAnswer;
+use refusals::{Refusal, refused};
 
-// A delivery, or that there is none: what is the largest, and what a paper claims.
-#[derive(Clone, Copy)]
-pub enum Delivery {
-    Value(i32),
-    None,
-}
-
-// What a class comes to: no papers and so no figures; the number of papers, the sum, the least and the greatest of their points; or the number of a refusal and
-// its place. The mean is the sum over the number.
-#[derive(Clone, Copy)]
-pub enum Class {
-    Empty,
-    Marked(u16, u16, u8, u8),
-    Refused(u8, u16),
-}
-
-fn wide(x: u16) -> usize
-    ensures { result ≡ x }
-{
-    x as usize
-}
-
-fn wide_points(x: u8) -> usize
-    ensures { result ≡ x }
-{
-    x as usize
+// The figures of a class: the number of papers, the sum, the least and the greatest of their points. The mean is the sum over the number.
+#[derive(Clone, Copy, Debug, PartialEq, Eq)]
+pub struct ClassFigures {
+    pub number: u16,
+    pub sum: u16,
+    pub least: u8,
+    pub greatest: u8,
 }
 
 fn narrow(n: usize) -> u16
@@ -76,32 +55,17 @@ fn holds(set: &[u64], v: usize) -> bool
 }
 
 // The claim of a paper: a number, or none where its kind is 1.
-fn claim_of(kind: u8, number: i32) -> Delivery
+fn claim_of(kind: u8, number: i32) -> Option<i32>
     ensures { result ≡ claim_of kind number }
 {
-    if kind == 1 {
-        return Delivery::None;
-    }
-    Delivery::Value(number)
+    if kind == 1 { None } else { Some(number) }
 }
 
-// Whether a claim is this value; whether it is none.
-fn claims_value(claim: Delivery, v: i32) -> bool
+// Whether a claim is this value.
+fn claims_value(claim: Option<i32>, v: i32) -> bool
     ensures { Decides (IsValue claim v) result }
 {
-    match claim {
-        Delivery::Value(w) => w == v,
-        Delivery::None => false,
-    }
-}
-
-fn claims_none(claim: Delivery) -> bool
-    ensures { Decides (IsNone claim) result }
-{
-    match claim {
-        Delivery::Value(w) => false,
-        Delivery::None => true,
-    }
+    claim == Some(v)
 }
 
 fn less(x: i32, y: i32) -> bool
@@ -151,7 +115,7 @@ fn proves_none(total: i32, from: bool, into: bool) -> bool
 }
 
 // The points for claim and set where there is a largest value: 3 and 3, each by itself.
-fn value_points(v: i32, claim: Delivery, total: i32, from: bool, into: bool) -> u8
+fn value_points(v: i32, claim: Option<i32>, total: i32, from: bool, into: bool) -> u8
     ensures { ValuePoints v claim total from into result }
 {
     let claimed = claims_value(claim, v);
@@ -169,10 +133,10 @@ fn value_points(v: i32, claim: Delivery, total: i32, from: bool, into: bool) -> 
 }
 
 // The points for claim and set where nothing can be delivered: 6 for both together.
-fn none_points(claim: Delivery, total: i32, from: bool, into: bool) -> u8
+fn none_points(claim: Option<i32>, total: i32, from: bool, into: bool) -> u8
     ensures { NonePoints claim total from into result }
 {
-    if claims_none(claim) {
+    if claim.is_none() {
         if proves_none(total, from, into) {
             return 6;
         }
@@ -181,17 +145,17 @@ fn none_points(claim: Delivery, total: i32, from: bool, into: bool) -> u8
 }
 
 // The points for claim and set.
-fn last_six(largest: Delivery, claim: Delivery, total: i32, from: bool, into: bool) -> u8
+fn last_six(largest: Option<i32>, claim: Option<i32>, total: i32, from: bool, into: bool) -> u8
     ensures { LastSixBy largest claim total from into result }
 {
     match largest {
-        Delivery::Value(v) => value_points(v, claim, total, from, into),
-        Delivery::None => none_points(claim, total, from, into),
+        Some(v) => value_points(v, claim, total, from, into),
+        None => none_points(claim, total, from, into),
     }
 }
 
 // The largest value, by Largest into arrays that every answer fits in, which end here.
-fn find_largest(sheet: &[u8], source: u16, sink: u16) -> Delivery
+fn find_largest(sheet: &[u8], source: u16, sink: u16) -> Option<i32>
     requires { Asked sheet.now source sink }
     ensures { IsLargest sheet.now source sink result }
 {
@@ -199,9 +163,8 @@ fn find_largest(sheet: &[u8], source: u16, sink: u16) -> Delivery
     let mut set = [0u64; 9];
     let answer = analyser::largest(sheet, source, sink, &mut flows, &mut set);
     match answer {
-        LargestAnswer::Value(v) => Delivery::Value(v),
-        LargestAnswer::None => Delivery::None,
-        LargestAnswer::Refused(k, p) => Delivery::None,
+        Ok(largest) => largest,
+        Err(_) => None,
     }
 }
 
@@ -222,8 +185,8 @@ fn settings_points(sheet: &[u8], source: u16, sink: u16, value: i32, settings: &
 {
     let answer = analyser::mark(sheet, source, sink, settings);
     match answer {
-        MarkAnswer::Value(v) => value_asked(v, value),
-        MarkAnswer::Refused(k, p) => 0,
+        Ok(v) => value_asked(v, value),
+        Err(_) => 0,
     }
 }
 
@@ -235,8 +198,8 @@ fn outward_total(sheet: &[u8], set: &[u64]) -> i32
     let mut subtotals = [0i32; 513];
     let answer = analyser::totals(sheet, set, &mut subtotals);
     match answer {
-        TotalsAnswer::Total(t) => t,
-        TotalsAnswer::Refused(k, p) => 0,
+        Ok(t) => t,
+        Err(_) => 0,
     }
 }
 
@@ -246,8 +209,8 @@ fn paper_points(
     source: u16,
     sink: u16,
     value: i32,
-    largest: Delivery,
-    claim: Delivery,
+    largest: Option<i32>,
+    claim: Option<i32>,
     settings: &[i32],
     set: &[u64],
 ) -> u8
@@ -257,8 +220,8 @@ fn paper_points(
 {
     let first = settings_points(sheet, source, sink, value, settings);
     let total = outward_total(sheet, set);
-    let from = holds(set, wide(source));
-    let into = holds(set, wide(sink));
+    let from = holds(set, usize::from(source));
+    let into = holds(set, usize::from(sink));
     let rest = last_six(largest, claim, total, from, into);
     first + rest
 }
@@ -271,7 +234,7 @@ fn mark_papers(
     source: u16,
     sink: u16,
     value: i32,
-    largest: Delivery,
+    largest: Option<i32>,
     claims: &[i32],
     kinds: &[u8],
     settings: &[i32],
@@ -288,8 +251,7 @@ fn mark_papers(
 {
     let n = claims.len();
     let words = words_for(nodes);
-    let mut q: usize = 0;
-    while q < n {
+    for q in 0..n {
         let start = q * edges;
         let end = start + edges;
         let word = q * words;
@@ -305,7 +267,6 @@ fn mark_papers(
             &settings[start..end],
             &sets[word..past],
         );
-        q += 1;
     }
 }
 
@@ -315,67 +276,46 @@ fn sum_of(points: &[u8], n: usize) -> usize
     ensures { (result ≡ sumℕ n (at points.now)) × (result ≤ 10000) }
 {
     let mut sum: usize = 0;
-    let mut q: usize = 0;
-    while q < n {
-        sum += wide_points(points[q]);
-        q += 1;
+    for q in 0..n {
+        sum += usize::from(points[q]);
     }
     sum
 }
 
-// The place of the least points of n papers, and of the greatest.
-fn least_of(points: &[u8], n: usize) -> usize
+// The least and the greatest points of n papers.
+fn least_and_greatest(points: &[u8], n: usize) -> (u8, u8)
     requires { (n ≤ length points.now) × (0 < n) }
-    ensures { (result < n) × ((q : ℕ) → q < n → at points.now result ≤ at points.now q) }
+    ensures { Extremes n (at points.now) result.0 result.1 }
 {
-    let mut best: usize = 0;
-    let mut q: usize = 1;
-    while q < n {
-        let here = q;
-        q += 1;
-        if points[here] < points[best] {
-            best = here;
-        }
+    let mut least = points[0];
+    let mut greatest = points[0];
+    for q in 1..n {
+        least = least.min(points[q]);
+        greatest = greatest.max(points[q]);
     }
-    best
-}
-
-fn greatest_of(points: &[u8], n: usize) -> usize
-    requires { (n ≤ length points.now) × (0 < n) }
-    ensures { (result < n) × ((q : ℕ) → q < n → at points.now q ≤ at points.now result) }
-{
-    let mut best: usize = 0;
-    let mut q: usize = 1;
-    while q < n {
-        let here = q;
-        q += 1;
-        if points[best] < points[here] {
-            best = here;
-        }
-    }
-    best
+    (least, greatest)
 }
 
 // Checks 13, 14 and 15 of the question.
-fn check_question(nodes: usize, source: usize, sink: usize, value: i32) -> Verdict
+fn check_question(nodes: usize, source: usize, sink: usize, value: i32) -> Result<(), Refusal>
     ensures { Judged (end_checks nodes source sink ++ value_checks value) result }
 {
     if nodes <= source {
-        return Verdict::Refused(13, 0);
+        return refused(13);
     }
     if nodes <= sink {
-        return Verdict::Refused(13, 0);
+        return refused(13);
     }
     if source == sink {
-        return Verdict::Refused(14, 0);
+        return refused(14);
     }
     if value < -600000000 {
-        return Verdict::Refused(15, 0);
+        return refused(15);
     }
     if value > 600000000 {
-        return Verdict::Refused(15, 0);
+        return refused(15);
     }
-    Verdict::Passed
+    Ok(())
 }
 
 // Checks 32 and 16 of a class of n papers, by the lengths of its slices.
@@ -387,26 +327,26 @@ fn check_class(
     settings: usize,
     sets: usize,
     points: usize,
-) -> Verdict
+) -> Result<(), Refusal>
     requires { (nodes ≤ 513) × (edges ≤ 512) }
     ensures { Judged (class_checks nodes edges n kinds settings sets points) result }
 {
     if 1000 < n {
-        return Verdict::Refused(32, 0);
+        return refused(32);
     }
     if kinds < n {
-        return Verdict::Refused(16, 0);
+        return refused(16);
     }
     if settings < n * edges {
-        return Verdict::Refused(16, 0);
+        return refused(16);
     }
     if sets < n * words_for(nodes) {
-        return Verdict::Refused(16, 0);
+        return refused(16);
     }
     if points < n {
-        return Verdict::Refused(16, 0);
+        return refused(16);
     }
-    Verdict::Passed
+    Ok(())
 }
 
 // A class on a sheet that is accepted, with its counts.
@@ -422,17 +362,14 @@ fn examine_counted(
     settings: &[i32],
     sets: &[u64],
     points: &mut [u8],
-) -> Class
+) -> Result<Option<ClassFigures>, Refusal>
     requires { NoneOf (sheet_checks sheet.now) × (nodes ≡ nodes_of sheet.now) × (edges ≡ edges_of sheet.now) }
     ensures { Examines sheet.now source sink value claims.now kinds.now settings.now sets.now
         points.old points.new result }
 {
-    let asked = check_question(nodes, wide(source), wide(sink), value);
-    if let Verdict::Refused(k, p) = asked {
-        return Class::Refused(k, p);
-    }
+    check_question(nodes, usize::from(source), usize::from(sink), value)?;
     let n = claims.len();
-    let room = check_class(
+    check_class(
         nodes,
         edges,
         n,
@@ -440,21 +377,22 @@ fn examine_counted(
         settings.len(),
         sets.len(),
         points.len(),
-    );
-    if let Verdict::Refused(k, p) = room {
-        return Class::Refused(k, p);
-    }
+    )?;
     if n == 0 {
-        return Class::Empty;
+        return Ok(None);
     }
     let largest = find_largest(sheet, source, sink);
     mark_papers(
         sheet, nodes, edges, source, sink, value, largest, claims, kinds, settings, sets, points,
     );
     let sum = sum_of(&*points, n);
-    let least = least_of(&*points, n);
-    let greatest = greatest_of(&*points, n);
-    Class::Marked(narrow(n), narrow(sum), points[least], points[greatest])
+    let (least, greatest) = least_and_greatest(&*points, n);
+    Ok(Some(ClassFigures {
+        number: narrow(n),
+        sum: narrow(sum),
+        least,
+        greatest,
+    }))
 }
 
 // The exam desk: the points of each paper of a class, paper q at place q of `points`, and the class's figures. Claim q is the number claims[q], or none where
@@ -469,25 +407,22 @@ pub fn examine(
     settings: &[i32],
     sets: &[u64],
     points: &mut [u8],
-) -> Class
+) -> Result<Option<ClassFigures>, Refusal>
     ensures { Examines sheet.now source sink value claims.now kinds.now settings.now sets.now
         points.old points.new result }
 {
-    let counted = analyser::counts(sheet);
-    match counted {
-        CountsAnswer::Refused(k, p) => Class::Refused(k, p),
-        CountsAnswer::Counts(nodes, edges) => examine_counted(
-            sheet,
-            wide(nodes),
-            wide(edges),
-            source,
-            sink,
-            value,
-            claims,
-            kinds,
-            settings,
-            sets,
-            points,
-        ),
-    }
+    let counts = analyser::counts(sheet)?;
+    examine_counted(
+        sheet,
+        usize::from(counts.nodes),
+        usize::from(counts.edges),
+        source,
+        sink,
+        value,
+        claims,
+        kinds,
+        settings,
+        sets,
+        points,
+    )
 }

@@ -5,14 +5,14 @@ use mathlib.Core.List.{List, [], ◌∷◌, ◌++◌}
 use Prim.Native.Nat.{ℕ, ◌≤◌, ◌<◌}
 use native.Mathlib.Omega.{arith}
 use lib.ListN.{length}
+use Rattle.std.specs.Prelude.{Result, Ok, Err}
+use Rattle.refusals.specs.declared.Refusal.{Refusal}
 use Rattle.refusals.specs.Order.{Check, ◌when◌, NoneOf, FirstOf}
 use Rattle.refusals.proofs.Order.{none_append, append_none, first_left, first_right}
 use Rattle.maps.specs.Map.{darts}
 use Rattle.maps.specs.Drawing.{Drawing}
 use Rattle.questions.specs.Question.{end_checks}
 use Rattle.dimacs.specs.Write.{BelowZero, text_of, text_checks, TextWritten}
-use Rattle.dimacs.specs.declared.DimacsAnswer.{DimacsAnswer}
-use Rattle.dimacs.specs.declared.DimacsAnswer.TheVariants.{Bytes, Refused}
 
 module _ (𝓓 : Drawing) (source sink : ℕ) (out : List ℕ) where
   abbrev ends : List Check
@@ -47,7 +47,7 @@ module _ (𝓓 : Drawing) (source sink : ℕ) (out : List ℕ) where
   unfolding text_checks NoneOf
   text_known h = let a = append_none ends rest h in (a.0, a.1.0)
 
-pub text_after : (before : List Check) → NoneOf before → (𝓓 : Drawing) (checks : List Check) (source sink : ℕ) (out out' : List ℕ) (r : DimacsAnswer)
+pub text_after : (before : List Check) → NoneOf before → (𝓓 : Drawing) (checks : List Check) (source sink : ℕ) (out out' : List ℕ) (r : Result ℕ Refusal)
     → TextWritten 𝓓 checks source sink out out' r → TextWritten 𝓓 (before ++ checks) source sink out out' r
-text_after before passed 𝓓 checks source sink out out' (Bytes n) h = (none_append before checks passed h.0, h.1, h.2)
-text_after before passed 𝓓 checks source sink out out' (Refused k p) h = (first_right before checks k p passed h.0, h.1)
+text_after before passed 𝓓 checks source sink out out' (Ok n) h = (none_append before checks passed h.0, h.1, h.2)
+text_after before passed 𝓓 checks source sink out out' (Err r) h = (first_right before checks r.number r.place passed h.0, h.1)

@@ -2,7 +2,7 @@
 // byte is written, straight into the lent output.
 #![tactic(auto)]
 
-ghost use Rattle.std.specs.Prelude.{◌≡◌, ◌∷◌, ◌++◌, ◌+◌, ◌≤◌, length, pos, ◌<ℤ◌};
+ghost use Rattle.std.specs.Prelude.{◌≡◌, ◌∷◌, ◌++◌, ◌+◌, ◌≤◌, length};
 ghost use Rattle.refusals.specs.Order.{Decides};
 ghost use Rattle.arrays.specs.At.{atℤ};
 ghost use Rattle.arrays.specs.Maps.{drawing_of};
@@ -12,37 +12,20 @@ ghost use Rattle.dimacs.specs.Text.{natural, problem_line, arc_line};
 ghost use Rattle.dimacs.specs.Write.{BelowZero, text_of, text_checks, TextWritten};
 ghost use Rattle.dimacs.specs.inner.ArcLines.{arc_lines};
 
-use refusals::Verdict;
+use refusals::{Refusal, refused};
 
 // The number of a node in the text, where nodes count from 1.
 fn node_number(v: u16) -> u32
     ensures { result ≡ v + 1 }
 {
-    v as u32 + 1
+    u32::from(v) + 1
 }
 
-// How many nodes or arcs there are, at the width in which digits are taken.
-fn count(n: usize) -> u32
-    requires { n ≤ 1024 }
-    ensures { result ≡ n }
-{
-    n as u32
-}
-
-// A capacity that is not below zero, at the same width.
+// A capacity that is not below zero, at the width in which digits are taken.
 fn capacity_number(c: i32) -> u32
     ensures { result ≡ natural c }
 {
-    if c < 0 { 0 } else { c as u32 }
-}
-
-fn negative(c: i32) -> bool
-    ensures { Decides (c <ℤ pos 0) result }
-{
-    if c < 0 {
-        return true;
-    }
-    false
+    u32::try_from(c).unwrap_or(0)
 }
 
 // Whether some capacity is below zero, forward or back: refusal 22.
@@ -50,14 +33,7 @@ fn some_negative(capacities: &[i32; 1024], darts: usize) -> bool
     requires { darts ≤ 1024 }
     ensures { Decides (BelowZero darts (atℤ capacities.now)) result }
 {
-    let mut d: usize = 0;
-    while d < darts {
-        if negative(capacities[d]) {
-            return true;
-        }
-        d += 1;
-    }
-    false
+    capacities[..darts].iter().any(|c| *c < 0)
 }
 
 // How long the line of an arc is: its three numbers, and "a", three spaces and the line feed.
@@ -74,11 +50,9 @@ fn arcs_length(tails: &[u16; 1024], capacities: &[i32; 1024], darts: usize) -> u
     ensures { (result ≡ length (arc_lines tails.now capacities.now darts)) × (result ≤ 35840) }
 {
     let mut sum: usize = 0;
-    let mut d: usize = 0;
-    while d < darts {
+    for d in 0..darts {
         let back = arrays::reverse(d);
-        sum = sum + arc_length(tails[d], tails[back], capacities[d]);
-        d += 1;
+        sum += arc_length(tails[d], tails[back], capacities[d]);
     }
     sum
 }
@@ -97,7 +71,7 @@ fn text_length<'a>(
     requires { (nodes ≤ 1024) × (edges ≤ 512) }
     ensures { result ≡ length (text_of (drawing_of nodes edges outer tails.now rotations.now capacities.now) source sink) }
 {
-    let counts = texts::digit_count(count(nodes)) + texts::digit_count(count(2 * edges)) + 8;
+    let counts = texts::digit_count(nodes as u32) + texts::digit_count((2 * edges) as u32) + 8;
     let ends = texts::digit_count(node_number(source)) + texts::digit_count(node_number(sink)) + 10;
     let arcs = arcs_length(tails, capacities, 2 * edges);
     counts + ends + arcs
@@ -118,8 +92,8 @@ fn put_problem(text: &mut [u8], nodes: usize, arcs: usize) -> usize
     ensures { Placed 0 (problem_line nodes arcs) text.old text.new result }
 {
     let first = texts::put_bytes(text, 0, b"p max ");
-    let second = put_field(text, first, count(nodes), b" ");
-    put_field(text, second, count(arcs), b"\n")
+    let second = put_field(text, first, nodes as u32, b" ");
+    put_field(text, second, arcs as u32, b"\n")
 }
 
 // "n", a node, and what it is: " s" or " t" and the line feed.
@@ -156,11 +130,9 @@ fn put_arcs(
         text.old text.new result }
 {
     let mut end = first;
-    let mut d: usize = 0;
-    while d < darts {
+    for d in 0..darts {
         let back = arrays::reverse(d);
         end = put_arc(text, end, tails[d], tails[back], capacities[d]);
-        d += 1;
     }
     end
 }
@@ -188,14 +160,8 @@ fn put_text<'a>(
     put_arcs(text, third, tails, capacities, 2 * edges)
 }
 
-// What is answered: how many bytes the text has, or the number of a refusal and its place.
-#[derive(Clone, Copy)]
-pub enum DimacsAnswer {
-    Bytes(usize),
-    Refused(u8, u16),
-}
-
-// The text in front of the lent output. The rotations and the outer dart are named by the contract only: they are part of its drawing.
+// The text in front of the lent output; the answer is how many bytes it has. The rotations and the outer dart are named by the contract only: they are part
+// of its drawing.
 pub fn write<'a>(
     tails: &'a [u16; 1024],
     rotations: &'a [u16; 1024],
@@ -206,26 +172,23 @@ pub fn write<'a>(
     source: u16,
     sink: u16,
     out: &mut [u8],
-) -> DimacsAnswer
+) -> Result<usize, Refusal>
     requires { (nodes ≤ 1024) × (edges ≤ 512) }
     ensures { TextWritten (drawing_of nodes edges outer tails.now rotations.now capacities.now)
         (text_checks (drawing_of nodes edges outer tails.now rotations.now capacities.now) source sink out.old)
         source sink out.old out.new result }
 {
-    let ends = questions::check_ends(nodes, arrays::wide(source), arrays::wide(sink));
-    if let Verdict::Refused(k, p) = ends {
-        return DimacsAnswer::Refused(k, p);
-    }
+    questions::check_ends(nodes, usize::from(source), usize::from(sink))?;
     if some_negative(capacities, 2 * edges) {
-        return DimacsAnswer::Refused(22, 0);
+        return refused(22);
     }
     let length = text_length(
         tails, rotations, capacities, nodes, edges, outer, source, sink,
     );
     if out.len() < length {
-        return DimacsAnswer::Refused(16, 0);
+        return refused(16);
     }
-    DimacsAnswer::Bytes(put_text(
+    Ok(put_text(
         tails,
         rotations,
         capacities,

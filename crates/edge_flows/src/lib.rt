@@ -16,9 +16,9 @@ fn drop_over(lefts: &[u16; 1024], potentials: &[i64; 1024], e: usize) -> i64
     ensures { result
         ≡ atℤ potentials.now (at lefts.now (2 * e)) -ℤ atℤ potentials.now (at lefts.now (rev (2 * e))) }
 {
-    let left = arrays::wide(lefts[2 * e]);
-    let right = arrays::wide(lefts[2 * e + 1]);
-    signed::minus64(potentials[left], potentials[right])
+    let left = usize::from(lefts[2 * e]);
+    let right = usize::from(lefts[2 * e + 1]);
+    potentials[left] - potentials[right]
 }
 
 // The flow of edge e.
@@ -34,8 +34,8 @@ fn flow_of(
     ensures { result ≡ flow_of (at lefts.now) (atℤ capacities.now) (atℤ lengths.now) (atℤ potentials.now) e }
 {
     let fall = drop_over(lefts, potentials, e);
-    let along = signed::sub32(capacities[2 * e], lengths[2 * e]);
-    signed::narrow(signed::plus64(fall, along))
+    let along = i64::from(capacities[2 * e]) - i64::from(lengths[2 * e]);
+    (fall + along) as i32
 }
 
 // The flows of the edges; the rest of the slice stays as it was.
@@ -53,9 +53,7 @@ pub fn fill_flows(
         ≡ filled edges (flow_of (at lefts.now) (atℤ capacities.now) (atℤ lengths.now) (atℤ potentials.now))
         flows.old }
 {
-    let mut e: usize = 0;
-    while e < edges {
+    for e in 0..edges {
         flows[e] = flow_of(lefts, capacities, lengths, potentials, edges, e);
-        e += 1;
     }
 }

@@ -7,6 +7,7 @@ use native.Mathlib.Numerals.{add-one, add-two, add-three}
 use lib.ListN.{length, get_or, set, take, drop, length-append, length-take, length-drop}
 use lib.Seq.{sets, sets-eq, take_at, drop_at, drop-drop, drop-cons, get_or_at, get_or-append-add, length-take-le}
 use lib.IntN.{ℤ}
+use borrow.Rule.Slice.PartMut.{put_mid}
 use mir.Syntax.{w32}
 use mir.Val.{SFits, to_z, of_z}
 use Rattle.signed.proofs.Laws.{number_of_bits, bits_of_number, bits_below, number_fits}
@@ -33,11 +34,13 @@ pub put_sets : (at : ℕ) (bs l : List ℕ) → at + length bs ≤ length l → 
 unfolding put
 put_sets at bs l h = sets-eq bs l at h ∙ append_assoc (take at l) bs (drop (at + length bs) l)
 
-pub put_two : (at a b : ℕ) (l : List ℕ) → at + 2 ≤ length l → set (set l at a) (at + 1) b ≡ put at (a ∷ b ∷ []) l
-put_two at a b l h = rw add-one (put_sets at (a ∷ b ∷ []) l h)
+pub put_one : (at b : ℕ) (l : List ℕ) → at + 1 ≤ length l → set l at b ≡ put at (b ∷ []) l
+put_one at b l = put_sets at (b ∷ []) l
 
-pub put_four : (at a b c d : ℕ) (l : List ℕ) → at + 4 ≤ length l → set (set (set (set l at a) (at + 1) b) (at + 2) c) (at + 3) d ≡ put at (a ∷ b ∷ c ∷ d ∷ []) l
-put_four at a b c d l h = rw (add-one, add-two, add-three) (put_sets at (a ∷ b ∷ c ∷ d ∷ []) l h)
+-- a part of a slice that is written over holds what is put
+pub put_part : (at n : ℕ) (l bs part : List ℕ) → part ≡ bs → n ≡ length bs → put_mid at n l part ≡ put at bs l
+unfolding put
+put_part at n l bs part e m = rw (e, m) (ap (λ x. take at l ++ (bs ++ x)) (drop-drop (length bs) at l))
 
 -- ── the bytes of a value ──
 pub le16_length : (n : ℕ) → length (le16 n) ≡ 2

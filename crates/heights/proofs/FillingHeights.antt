@@ -202,7 +202,7 @@ module _ {darts : ℕ} {tail order from : ℕ → ℕ} {winding : ℕ → ℤ} (
 -- one step of the machine: the height at `known` less the winding fits, and storing it at `next` passes one dart
 module _ {darts : ℕ} {tail order from : ℕ → ℕ} {winding : ℕ → ℤ} (ok : Fillable darts tail order from winding) (heights : List ℤ) {i d p known : ℕ}
     (ξ : Filling darts tail order from winding (atℤ heights) i) (l : i < darts) (is-d : d ≡ order i) (is-p : p ≡ from d) (is_Known : known ≡ tail p)
-    (back : d ≡ rev p) where
+    (back : d ≡ rev p) {fall : ℤ} (is-fall : fall ≡ to_z w16 (of_z w16 (winding p))) where
   other : p ≢ d
   other e = rev_apart p (sym back ∙ sym e)
 
@@ -215,11 +215,17 @@ module _ {darts : ℕ} {tail order from : ℕ → ℕ} {winding : ℕ → ℤ} (
   fits_32 : (i * most_winding < 2147483648) × (i * most_winding + most_winding < 2147483648)
   fits_32 = (omega (arith, ok.few), omega (arith, ok.few))
 
+  fall_is : fall ≡ winding p
+  fall_is = is-fall ∙ same_bits16 (omega arith) small_p
+
+  fall_bits : to_z w32 (of_z w32 fall) ≡ winding p
+  fall_bits = same_bits (omega arith) (subst (Limited most_winding) (sym fall_is) small_p) ∙ fall_is
+
   abbrev read : ℤ
-  read = to_z w32 (of_z w32 (atℤ heights known)) -ℤ to_z w16 (of_z w16 (winding p))
+  read = to_z w32 (of_z w32 (atℤ heights known)) -ℤ to_z w32 (of_z w32 fall)
 
   read_is : read ≡ atℤ heights known -ℤ winding p
-  read_is = ap₂ (λ a b. a -ℤ b) (same_bits fits_32.0 read_limited) (same_bits16 (omega arith) small_p)
+  read_is = ap₂ (λ a b. a -ℤ b) (same_bits fits_32.0 read_limited) fall_bits
 
   new_limited : Limited (i * most_winding + most_winding) read
   new_limited = subst (Limited (i * most_winding + most_winding)) (sym read_is) (limited_minus read_limited small_p)
@@ -227,22 +233,20 @@ module _ {darts : ℕ} {tail order from : ℕ → ℕ} {winding : ℕ → ℤ} (
   pub new_fits : SFits w32 read
   new_fits = limited_fits (i * most_winding + most_winding) read fits_32.1 new_limited
 
-  pub filling_stored : {next : ℕ} {result : ℤ} → length heights ≡ 1024 → next ≡ tail d → result ≡ read
-      → (length (set heights next (to_z w32 (of_z w32 result))) ≡ 1024)
-      × Filling darts tail order from winding (atℤ (set heights next (to_z w32 (of_z w32 result)))) (i + 1)
-  filling_stored {next} {result} long is-next is-result = (
+  pub filling_stored : {next : ℕ} → length heights ≡ 1024 → next ≡ tail d
+      → (length (set heights next (to_z w32 (of_z w32 read))) ≡ 1024)
+      × Filling darts tail order from winding (atℤ (set heights next (to_z w32 (of_z w32 read)))) (i + 1)
+  filling_stored {next} long is-next = (
     length-set heights next bits ∙ long,
-    filling_over ok ξ l is-d is-p other back (is-result ∙ read_is ∙ ap (λ v. atℤ heights v -ℤ winding p) is_Known)
+    filling_over ok ξ l is-d is-p other back (read_is ∙ ap (λ v. atℤ heights v -ℤ winding p) is_Known)
         (ap (atℤ (set heights next bits)) (sym is-next)
-        ∙ get_or-set_same heights next bits (pos 0) (omega (arith, long, node_in ok (dart_in ok l is-d) is-next)) ∙ kept)
+        ∙ get_or-set_same heights next bits (pos 0) (omega (arith, long, node_in ok (dart_in ok l is-d) is-next))
+        ∙ same_bits fits_32.1 new_limited)
         (λ v n. get_or-set_other heights next v bits (pos 0) (λ e. n (e ∙ is-next))),
   )
     where
       bits : ℤ
-      bits = to_z w32 (of_z w32 result)
-
-      kept : bits ≡ result
-      kept = same_bits fits_32.1 (subst (Limited (i * most_winding + most_winding)) (sym is-result) new_limited)
+      bits = to_z w32 (of_z w32 read)
 
 -- a dart that begins a tree has its node set to 0
 pub filling_rooted : {darts : ℕ} {tail order from : ℕ → ℕ} {winding : ℕ → ℤ} (ok : Fillable darts tail order from winding) (heights : List ℤ) {i d p base : ℕ}

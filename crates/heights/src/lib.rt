@@ -21,21 +21,19 @@ pub fn fill_heights(
         × Rooted darts (at tails.now) (at order.now) (at from.now)
         (atℤ winding.now) (atℤ heights.new) }
 {
-    let start = arrays::wide(order[0]);
-    let root = arrays::wide(tails[start]);
+    let start = usize::from(order[0]);
+    let root = usize::from(tails[start]);
     heights[root] = 0;
-    let mut i: usize = 1;
-    while i < darts {
-        let d = arrays::wide(order[i]);
-        i += 1;
-        let p = arrays::wide(from[d]);
+    for i in 1..darts {
+        let d = usize::from(order[i]);
+        let p = usize::from(from[d]);
         let back = arrays::reverse(p);
         if d == back {
-            let known = arrays::wide(tails[p]);
-            let next = arrays::wide(tails[d]);
-            heights[next] = signed::minus_small(heights[known], winding[p]);
+            let known = usize::from(tails[p]);
+            let next = usize::from(tails[d]);
+            heights[next] = heights[known] - i32::from(winding[p]);
         } else if p == d {
-            let base = arrays::wide(tails[d]);
+            let base = usize::from(tails[d]);
             heights[base] = 0;
         }
     }

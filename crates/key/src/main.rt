@@ -3,14 +3,11 @@
 // and the exit status is zero all the same.
 #![tactic(auto)]
 
-use streams::Input;
-
 fn main(rt: HostRuntime) {
     let mut buffer = [0u8; 8721];
     let n = match streams::read_input(&mut rt.stdin(), &mut buffer) {
-        Input::Ended(n) => n,
-        Input::Full(n) => n,
-        Input::Failed(error) => {
+        Ok(n) => n,
+        Err(error) => {
             streams::tell(&rt, "key: standard input", error);
             return;
         }

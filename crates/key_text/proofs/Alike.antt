@@ -21,7 +21,7 @@ use Rattle.records.specs.Record.{record_length, body_length, record_checks}
 use Rattle.records.specs.Check.{number_checks, edge_checks}
 use Rattle.records.specs.Sheet.{kind_of, headLength, nodes_of, edges_of, outer_of, edge_after, edge_at, sheet_map, sheet_drawing}
 use Rattle.records.specs.Sheet.{head_record_checks, head_checks, edge_record_checks, byte_checks}
-use Rattle.records.proofs.Head.{head_at_most, head_lengths}
+use Rattle.records.proofs.Heads.{head_at_most, head_lengths}
 use Rattle.records.proofs.Bytes.{head_kinds, head_whole, head_counts, bytes_head, bytes_counts, bytes_length}
 use Rattle.records.proofs.Fields.{edge_fields}
 use Rattle.sheets.specs.Open.{sheet_checks}

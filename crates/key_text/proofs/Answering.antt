@@ -7,11 +7,13 @@ use mathlib.Core.List.{List, [], ◌∷◌, ◌++◌}
 use Prim.Native.Nat.{ℕ, zero, suc, ◌*◌, ◌/◌, ◌%◌, ◌^◌, ◌≤◌, ◌<◌}
 use native.Mathlib.Omega.{arith}
 use lib.Dec.{eqb}
-use lib.ListN.{length, get_or, take, drop}
+use lib.ListN.{length, get_or, take, drop, length-append}
 use lib.Seq.{take_at}
 use lib.IntN.{ℤ}
 use Rattle.integers.specs.inner.Limited.{Limited}
+use Rattle.std.specs.Prelude.{Result, Ok, Err}
 use Rattle.refusals.specs.Order.{Check, NoneOf, FirstOf}
+use Rattle.refusals.specs.declared.Refusal.{Refusal}
 use Rattle.refusals.proofs.Order.{none_append, append_none, append_first, first_left, first_right, first_none, neither}
 use Rattle.flows.specs.ProvingSet.{words_for, member, size}
 use Rattle.flows.proofs.Limits.{settings_limited}
@@ -25,8 +27,8 @@ use Rattle.sheets.proofs.Accepted.{sheet_bytes, sheet_counts}
 use Rattle.questions.specs.Question.{end_checks, value_checks, room_checks}
 use Rattle.questions.specs.Solve.{question_checks}
 use Rattle.analyser.specs.Solve.{solve_checks, Solves}
-use Rattle.questions.specs.declared.SolveAnswer.{SolveAnswer}
-use Rattle.questions.specs.declared.SolveAnswer.TheVariants.{Can, Cannot, Refused}
+use Rattle.questions.specs.declared.Solution.{Solution}
+use Rattle.questions.specs.declared.Solution.TheVariants.{Can, Cannot}
 use Rattle.questions.specs.inner.Named.{NamedSet, SetNamed}
 use Rattle.questions.proofs.Asked.{value_limited}
 use Rattle.questions.proofs.OneAnswer as one
@@ -38,18 +40,18 @@ use Rattle.texts.specs.inner.Placed.{Placed}
 use Rattle.texts.proofs.Joined.{placed_front, lines_agree}
 use Rattle.key_text.specs.Question.{source_of, sink_of, value_of, sheet_of, key_checks}
 use Rattle.key_text.specs.Text.{node_line, can_text, cannot_line, cannot_text, refused_text}
-use Rattle.key_text.specs.Key.{Key, can, cannot, refused, Prints, text_room}
+use Rattle.key_text.specs.Key.{Key, can, cannot, refused, Prints}
 use Rattle.key_text.specs.inner.Named.{NamedText, KeyNamed}
 use Rattle.key_text.specs.OneKey.{answer_text}
-use Rattle.key_text.proofs.Length.{can_text_length, cannot_text_length, refused_text_length}
 
--- a text that stands at the front is printed, and with it the set that it names
-pub printed : (b t text text' : List ℕ) (n : ℕ) → Key b t → NamedText b t → Placed 0 t text text' n → length t ≤ length text
+-- a text that stands at the front of a slice, which keeps its length, is printed, and with it the set that it names
+pub printed : (b t text text' : List ℕ) (n : ℕ) → Key b t → NamedText b t → Placed 0 t text text' n → length text' ≡ length text
     → Prints b text text' n × KeyNamed b text' n
-printed b t text text' n k named p room =
+printed b t text text' n k named p same =
     let long : length t ≡ n = omega (arith, p.1) in
     let whole = placed_front n t text text' p in
-    ((t, k, long, omega (arith, p.1), whole), subst (NamedText b) (sym (ap (take n) whole ∙ take_at t (drop n text) n long)) named)
+    let fits : n ≤ length text = omega (arith, long, same, ap length whole, length-append t (drop n text)) in
+    ((t, k, long, fits, whole), subst (NamedText b) (sym (ap (take n) whole ∙ take_at t (drop n text) n long)) named)
 
 -- what is refused names no set
 refused_names : (b t : List ℕ) (k p : ℕ) → FirstOf (key_checks b) k p → NamedText b t
@@ -62,11 +64,11 @@ question_whole b h = let short : length b < 9 → ⊥ = h.1.1.0 in omega (arith,
 
 -- 1 or 2, of the question
 pub question_refused : (b text text' : List ℕ) (n k p : ℕ) → FirstOf (record_checks b 3 0) k p
-    → Placed 0 (refused_text k) text text' n → length (refused_text k) ≤ length text → Prints b text text' n × KeyNamed b text' n
+    → Placed 0 (refused_text k) text text' n → length text' ≡ length text → Prints b text text' n × KeyNamed b text' n
 unfolding key_checks
-question_refused b text text' n k p f placed room =
+question_refused b text text' n k p f placed same =
     let first = first_left (record_checks b 3 0) _ k p f in
-    printed b (refused_text k) text text' n (refused k p first refl) (refused_names b (refused_text k) k p first) placed room
+    printed b (refused_text k) text text' n (refused k p first refl) (refused_names b (refused_text k) k p first) placed same
 
 -- a word that lies in front of others is still the word at its place
 in-front : (xs ys : List ℕ) (i : ℕ) → i < length xs → get_or (xs ++ ys) i 0 ≡ get_or xs i 0
@@ -78,13 +80,13 @@ member_in_front : (nodes : ℕ) (words rest : List ℕ) (v : ℕ) → length wor
 member_in_front nodes words rest v e l = ap (λ w. eqb (w / 2 ^ (v % 64) % 2) 1) (in-front words rest (v / 64) (omega (arith, e)))
 
 -- what Solve promises of its answer
-abbrev pub Answered : List ℕ → (source sink : ℕ) → ℤ → (flows flows' : List ℤ) (set set' : List ℕ) → SolveAnswer → Type 0
+abbrev pub Answered : List ℕ → (source sink : ℕ) → ℤ → (flows flows' : List ℤ) (set set' : List ℕ) → Result Solution Refusal → Type 0
 Answered s source sink value flows flows' set set' answer =
     Solves s source sink value flows flows' set set' answer × SetNamed (sheet_drawing s) source sink value set' answer
 
 -- said of the bytes that sheet and question were read from
 pub of_bytes : {s s₁ : List ℕ} {source source₁ sink sink₁ : ℕ} {value value₁ : ℤ} → s ≡ s₁ → source ≡ source₁ → sink ≡ sink₁ → value ≡ value₁
-    → (flows flows' : List ℤ) (set set' : List ℕ) (answer : SolveAnswer)
+    → (flows flows' : List ℤ) (set set' : List ℕ) (answer : Result Solution Refusal)
     → Answered s source sink value flows flows' set set' answer → Answered s₁ source₁ sink₁ value₁ flows flows' set set' answer
 of_bytes e₁ e₂ e₃ e₄ flows flows' set set' answer h = rw (e₁, e₂, e₃, e₄) at h
 
@@ -106,7 +108,7 @@ module _ (s : List ℕ) (source sink : ℕ) (value : ℤ) (flows flows' : List �
     pub value_fits : Limited 600000000 value
     value_fits = value_limited value known.value_inside
 
-  pub flows_fit : Solves s source sink value flows flows' set set' Can → (e : ℕ) → e < edges_of s → Limited 1000000 (atℤ flows' e)
+  pub flows_fit : Solves s source sink value flows flows' set set' (Ok Can) → (e : ℕ) → e < edges_of s → Limited 1000000 (atℤ flows' e)
   flows_fit h e l =
       let a = accepted s source sink value flows set h.0 in
       let x = can_highest s source sink value flows flows' set set' h.0 h in
@@ -142,7 +144,7 @@ module _ (b : List ℕ) (question : NoneOf (record_checks b 3 0)) (flows flows' 
   abbrev room : List Check
   room = room_checks (nodes_of s) (edges_of s) (length flows) (length set)
 
-  abbrev Gives : SolveAnswer → Type 0
+  abbrev Gives : Result Solution Refusal → Type 0
   Gives answer = Answered s (source_of b) (sink_of b) (value_of b) flows flows' set set' answer
 
   key_none : NoneOf checks → NoneOf (key_checks b)
@@ -178,14 +180,14 @@ module _ (b : List ℕ) (question : NoneOf (record_checks b 3 0)) (flows flows' 
       by_sheet (inr g) = first_right (sheet_checks s) (ends ++ asked) k p g.0 (by_ends g.0 (append_first ends (asked ++ room) k p g.1))
 
   -- ── the three answers: each is a key, and names the set that the search named for it ──
-  answer_can : Gives Can → Key b (answer_text b flows' set' Can) × NamedText b (answer_text b flows' set' Can)
+  answer_can : Gives (Ok Can) → Key b (answer_text b flows' set' (Ok Can)) × NamedText b (answer_text b flows' set' (Ok Can))
   answer_can (h, a) =
       let high = can_highest s (source_of b) (sink_of b) (value_of b) flows flows' set set' h.0 h in (
         can (key_none h.0) (atℤ flows') high refl,
         λ none some proves. absurd (set_excludes s (source_of b) (sink_of b) (value_of b) flows set h.0 some proves (atℤ flows') high.carries),
       )
 
-  answer_cannot : (n : ℕ) → Gives (Cannot n) → Key b (answer_text b flows' set' (Cannot n)) × NamedText b (answer_text b flows' set' (Cannot n))
+  answer_cannot : (n : ℕ) → Gives (Ok (Cannot n)) → Key b (answer_text b flows' set' (Ok (Cannot n))) × NamedText b (answer_text b flows' set' (Ok (Cannot n)))
   unfolding cannot_text node_line
   answer_cannot n (h, a) =
       let words = h.1.0 in
@@ -198,50 +200,43 @@ module _ (b : List ℕ) (question : NoneOf (record_checks b 3 0)) (flows flows' 
         λ none some proves. (words, w.is_set, subst (NamedSet (sheet_drawing s) (source_of b) (sink_of b) (value_of b)) (one.in-front w) a, same),
       )
 
-  answer_refused : (k p : ℕ) → (NoneOf (sheet_checks s) → FirstOf room k p → ⊥) → Gives (Refused k p) → Key b (refused_text k) × NamedText b (refused_text k)
-  answer_refused k p roomy (h, a) =
-      let first = key_first k p roomy h.0 in
-      (refused k p first refl, refused_names b (refused_text k) k p first)
+  answer_refused : (r : Refusal) → (NoneOf (sheet_checks s) → FirstOf room r.number r.place → ⊥) → Gives (Err r)
+      → Key b (refused_text r.number) × NamedText b (refused_text r.number)
+  answer_refused r roomy (h, a) =
+      let first = key_first r.number r.place roomy h.0 in
+      (refused r.number r.place first refl, refused_names b (refused_text r.number) r.number r.place first)
 
   -- whichever it is, if it is not 16
-  pub answer_key : (answer : SolveAnswer) → (NoneOf (sheet_checks s) → (k p : ℕ) → FirstOf room k p → answer ≢ Refused k p) → Gives answer
+  pub answer_key : (answer : Result Solution Refusal) → (NoneOf (sheet_checks s) → (r : Refusal) → FirstOf room r.number r.place → answer ≢ Err r)
+      → Gives answer
       → Key b (answer_text b flows' set' answer) × NamedText b (answer_text b flows' set' answer)
-  answer_key Can roomy h = answer_can h
-  answer_key (Cannot n) roomy h = answer_cannot n h
-  answer_key (Refused k p) roomy h = answer_refused k p (λ sheet f. roomy sheet k p f refl) h
+  answer_key (Ok Can) roomy h = answer_can h
+  answer_key (Ok (Cannot n)) roomy h = answer_cannot n h
+  answer_key (Err r) roomy h = answer_refused r (λ sheet f. roomy sheet r f refl) h
 
   -- ── printed: the text that stands there is the answer's key ──
-  module _ (long : 512 ≤ length flows) (wide : 9 ≤ length set) (text text' : List ℕ) (enough : text_room ≤ length text) (n : ℕ) where
-    given : (answer : SolveAnswer) → Gives answer → Placed 0 (answer_text b flows' set' answer) text text' n
-        → length (answer_text b flows' set' answer) ≤ text_room → Prints b text text' n × KeyNamed b text' n
-    given answer h placed short =
-        let key = answer_key answer (λ sheet k p f e. first_none room k p f (no_sixteen s flows set long wide sheet)) h in
-        printed b (answer_text b flows' set' answer) text text' n key.0 key.1 placed (omega (arith, short, enough))
+  module _ (long : 512 ≤ length flows) (wide : 9 ≤ length set) (text text' : List ℕ) (same : length text' ≡ length text) (n : ℕ) where
+    given : (answer : Result Solution Refusal) → Gives answer → Placed 0 (answer_text b flows' set' answer) text text' n
+        → Prints b text text' n × KeyNamed b text' n
+    given answer h placed =
+        let key = answer_key answer (λ sheet r f e. first_none room r.number r.place f (no_sixteen s flows set long wide sheet)) h in
+        printed b (answer_text b flows' set' answer) text text' n key.0 key.1 placed same
 
     module _ (value : ℤ) (same_value : value ≡ value_of b) where
-      pub can_printed : Gives Can → (edges : ℕ) → edges ≡ edges_of s
+      pub can_printed : Gives (Ok Can) → (edges : ℕ) → edges ≡ edges_of s
           → Placed 0 (can_text value edges (atℤ flows')) text text' n → Prints b text text' n × KeyNamed b text' n
       can_printed h edges e p =
-          let few = few_edges s (source_of b) (sink_of b) (value_of b) flows flows' set set' h.0.0 in
-          let fits =
-          can_text_length (value_of b) (edges_of s) (atℤ flows') (value_fits s (source_of b) (sink_of b) (value_of b) flows flows' set set' h.0.0)
-          few (flows_fit s (source_of b) (sink_of b) (value_of b) flows flows' set set' h.0) in
-          given Can h
+          given (Ok Can) h
           (subst (λ v. Placed 0 (can_text v (edges_of s) (atℤ flows')) text text' n) same_value
           (subst (λ k. Placed 0 (can_text value k (atℤ flows')) text text' n) e p))
-          (omega (arith, fits, few))
 
-      pub cannot_printed : (size : ℕ) → size < 65536 → Gives (Cannot size) → (nodes : ℕ) → nodes ≡ nodes_of s
+      pub cannot_printed : (size : ℕ) → Gives (Ok (Cannot size)) → (nodes : ℕ) → nodes ≡ nodes_of s
           → Placed 0 (cannot_text value size nodes set') text text' n → Prints b text text' n × KeyNamed b text' n
-      cannot_printed size short h nodes e p =
-          let few = few_nodes s (source_of b) (sink_of b) (value_of b) flows flows' set set' h.0.0 in
-          let fits =
-          cannot_text_length (value_of b) size (nodes_of s) set' short (value_fits s (source_of b) (sink_of b) (value_of b) flows flows' set set' h.0.0) few in
-          given (Cannot size) h
+      cannot_printed size h nodes e p =
+          given (Ok (Cannot size)) h
           (subst (λ v. Placed 0 (cannot_text v size (nodes_of s) set') text text' n) same_value
           (subst (λ k. Placed 0 (cannot_text value size k set') text text' n) e p))
-          (omega (arith, fits, few))
 
-    pub refused_printed : (k p : ℕ) → k < 256 → Gives (Refused k p)
-        → Placed 0 (refused_text k) text text' n → Prints b text text' n × KeyNamed b text' n
-    refused_printed k p small h placed = let fits = refused_text_length k small in given (Refused k p) h placed (omega (arith, fits))
+    pub refused_printed : (r : Refusal) → Gives (Err r)
+        → Placed 0 (refused_text r.number) text text' n → Prints b text text' n × KeyNamed b text' n
+    refused_printed r h placed = given (Err r) h placed

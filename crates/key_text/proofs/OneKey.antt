@@ -8,23 +8,24 @@ use lib.ListN.{length, take, drop}
 use lib.Seq.{take_at}
 use lib.IntN.{ℤ}
 use Rattle.refusals.specs.Order.{NoneOf, FirstOf}
-use Rattle.refusals.specs.declared.Verdict.TheVariants.{Passed}
+use Rattle.std.specs.Prelude.{Result, Ok, Err}
+use Rattle.refusals.specs.Refused as order
+use Rattle.refusals.specs.declared.Refusal.{Refusal}
 use Rattle.refusals.proofs.Order.{append_none, first_none, neither}
 use Rattle.flows.specs.ProvingSet.{words_for, size}
 use Rattle.records.specs.Record.{record_checks}
 use Rattle.records.specs.Sheet.{nodes_of, edges_of}
 use Rattle.sheets.specs.Open.{sheet_checks}
 use Rattle.questions.specs.Question.{room_checks}
-use Rattle.questions.specs.declared.SolveAnswer.{SolveAnswer}
-use Rattle.questions.specs.declared.SolveAnswer.TheVariants.{Refused}
+use Rattle.questions.specs.declared.Solution.{Solution}
 use Rattle.questions.proofs.OneAnswer.{words_one}
 use Rattle.pages.specs.Stretch.{stretch}
-use Rattle.pages.specs.Page.{PageAs, answer_at}
+use Rattle.pages.specs.Page.{answer_at}
 use Rattle.pages.specs.declared.Question.{Question}
 use Rattle.pages.specs.declared.Page.{Page}
 use Rattle.pages.proofs.Listing.{list_accepted}
 use Rattle.pages.proofs.Stretches.{ends_before, part_length}
-use Rattle.analyser.specs.Page.{page_checks, solves_alone, AnswersPage}
+use Rattle.analyser.specs.Page.{page_checks, AnswersPage}
 use Rattle.analyser.specs.inner.Named.{PageNamed}
 use Rattle.key_text.specs.Question.{source_of, sink_of, value_of, sheet_of}
 use Rattle.key_text.specs.Text.{cannot_text}
@@ -58,23 +59,24 @@ module _ (b text text' : List ℕ) (n : ℕ) (prints : Prints b text text' n) wh
 
 -- ── the key and an answer of Solve ──
 text_of : (b text text' : List ℕ) (n : ℕ) → Prints b text text' n → KeyNamed b text' n → NoneOf (record_checks b 3 0)
-    → (flows flows' : List ℤ) (set set' : List ℕ) (answer : SolveAnswer)
+    → (flows flows' : List ℤ) (set set' : List ℕ) (answer : Result Solution Refusal)
     → Answered (sheet_of b) (source_of b) (sink_of b) (value_of b) flows flows' set set' answer
-    → ((k p : ℕ) → FirstOf (room_checks (nodes_of (sheet_of b)) (edges_of (sheet_of b)) (length flows) (length set)) k p → answer ≢ Refused k p)
+    → ((r : Refusal) → FirstOf (room_checks (nodes_of (sheet_of b)) (edges_of (sheet_of b)) (length flows) (length set)) r.number r.place → answer ≢ Err r)
     → take n text' ≡ answer_text b flows' set' answer
 text_of b text text' n prints named whole flows flows' set set' answer h roomy =
     let own = answer_key b whole flows flows' set set' answer (λ sheet. roomy) h in
     one_key b (take n text') (answer_text b flows' set' answer) (key_of b text text' n prints) named own.0 own.1
 
 -- too short a slice is 16
-is_sixteen : (nodes edges flows set k p : ℕ) → FirstOf (room_checks nodes edges flows set) k p → Refused k p ≡ Refused 16 0
+is_sixteen : (nodes edges flows set : ℕ) (r : Refusal) → FirstOf (room_checks nodes edges flows set) r.number r.place
+    → ◌≡◌ {A = Result Solution Refusal} (Err r) (order.refused 16 0)
 unfolding FirstOf room_checks
-is_sixteen nodes edges flows set k p (inl h) = ap₂ Refused h.1 h.2
-is_sixteen nodes edges flows set k p (inr h) = absurd h.1
+is_sixteen nodes edges flows set r (inl h) = ap₂ order.refused h.1 h.2
+is_sixteen nodes edges flows set r (inr h) = absurd h.1
 
 -- ── and a question of a page ──
 module _ (s : List ℕ) (many : ℕ) (question : ℕ → Question) (flows flows' : List ℤ) (sets sets' : List ℕ) (page : Page)
-    (answers : AnswersPage s many question flows flows' sets sets' page) (passed : page.verdict ≡ Passed) (i : ℕ) (below : i < many) where
+    (answers : AnswersPage s many question flows flows' sets sets' (Ok page)) (i : ℕ) (below : i < many) where
   -- what the page's 16 looked at is enough for its stretches
   stretch_room : NoneOf (page_checks s many flows sets)
       → NoneOf (room_checks (nodes_of s) (edges_of s) (length (stretch (edges_of s) i flows)) (length (stretch (words_for (nodes_of s)) i sets)))
@@ -85,24 +87,19 @@ module _ (s : List ℕ) (many : ℕ) (question : ℕ → Question) (flows flows'
       let g = part_length (words_for (nodes_of s)) i sets (omega (arith, room.2, ends_before (words_for (nodes_of s)) i many below)) in
       (neither (λ l. omega (arith, f)) (λ l. omega (arith, g)), tt)
 
-  as_passed : PageAs (page_checks s many flows sets) (edges_of s) (words_for (nodes_of s)) many (λ j. solves_alone s (question j))
-      flows flows' sets sets' Passed page.count (answer_at page)
-  as_passed =
-      subst (λ v. PageAs (page_checks s many flows sets) (edges_of s) (words_for (nodes_of s)) many (λ j. solves_alone s (question j))
-      flows flows' sets sets' v page.count (answer_at page)) passed answers.0
-
-  line_answered : PageNamed s many question sets' page → (q : Question) → question i ≡ q
+  line_answered : PageNamed s many question sets' (Ok page) → (q : Question) → question i ≡ q
       → Answered s q.source q.sink q.value (stretch (edges_of s) i flows) (stretch (edges_of s) i flows')
       (stretch (words_for (nodes_of s)) i sets) (stretch (words_for (nodes_of s)) i sets') (answer_at page i)
   line_answered named q asked =
       subst (λ (q : Question). Answered s q.source q.sink q.value (stretch (edges_of s) i flows) (stretch (edges_of s) i flows')
       (stretch (words_for (nodes_of s)) i sets) (stretch (words_for (nodes_of s)) i sets') (answer_at page i)) asked
-      (as_passed.2 i below, named passed i below)
+      (answers.2 i below, named i below)
 
-  line_roomy : (k p : ℕ)
-      → FirstOf (room_checks (nodes_of s) (edges_of s) (length (stretch (edges_of s) i flows)) (length (stretch (words_for (nodes_of s)) i sets))) k p
-      → answer_at page i ≢ Refused k p
-  line_roomy k p first e = first_none _ k p first (stretch_room as_passed.0)
+  line_roomy : (r : Refusal)
+      → FirstOf (room_checks (nodes_of s) (edges_of s) (length (stretch (edges_of s) i flows)) (length (stretch (words_for (nodes_of s)) i sets)))
+      r.number r.place
+      → answer_at page i ≢ Err r
+  line_roomy r first e = first_none _ r.number r.place first (stretch_room answers.0)
 
 pub one_key_text : OneKey
 one_key_text = record {
@@ -110,9 +107,9 @@ one_key_text = record {
       let same = one_key b (take n text') (take m own') (key_of b text text' n p) a (key_of b own own' m q) c in
       (sym (length_of b text text' n p) ∙ ap length same ∙ length_of b own own' m q, same);
   same_key = λ b text text' n p a whole flows flows' set set' answer h named unless.
-      text_of b text text' n p a whole flows flows' set set' answer (h, named) (λ k j f e. unless (e ∙ is_sixteen _ _ _ _ k j f));
-  same_line_key = λ b text text' n p a whole many question flows flows' sets sets' page answers named passed i l asked.
+      text_of b text text' n p a whole flows flows' set set' answer (h, named) (λ r f e. unless (e ∙ is_sixteen _ _ _ _ r f));
+  same_line_key = λ b text text' n p a whole many question flows flows' sets sets' page answers named i l asked.
       text_of b text text' n p a whole _ _ _ _ (answer_at page i)
-      (line_answered (sheet_of b) many question flows flows' sets sets' page answers passed i l named _ asked)
-      (line_roomy (sheet_of b) many question flows flows' sets sets' page answers passed i l);
+      (line_answered (sheet_of b) many question flows flows' sets sets' page answers i l named _ asked)
+      (line_roomy (sheet_of b) many question flows flows' sets sets' page answers i l);
 }

@@ -1,13 +1,12 @@
 -- What the program key prints for the bytes that it is given (document 01, "The program key").
 -- By `Key` the text follows from the bytes, save the proving set and what the text says of it; that every run prints the same all the same is `OneKey`.
-use Rattle.std.specs.Prelude.{ℕ, ◌≤◌, ◌<◌, ◌≡◌, List, [], ◌∷◌, ◌++◌, length, drop, ℤ}
+use Rattle.std.specs.Prelude.{ℕ, ◌≤◌, ◌<◌, ◌≡◌, List, [], ◌∷◌, ◌++◌, length, drop, ℤ, Result, Ok, Err}
 use Rattle.refusals.specs.Order.{Check, ◌when◌, NoneOf, FirstOf}
+use Rattle.refusals.specs.declared.Refusal.{Refusal}
 use Rattle.flows.specs.Highest.{Highest}
 use Rattle.flows.specs.ProvingSet.{Proves, SetOf, member, size}
 use Rattle.records.specs.Sheet.{nodes_of, edges_of, capacity_of, sheet_map, outer_of}
 use Rattle.key_text.specs.Question.{source_of, sink_of, value_of, sheet_of, key_checks}
-use Rattle.key_text.specs.declared.KeyAnswer.{KeyAnswer}
-use Rattle.key_text.specs.declared.KeyAnswer.TheVariants.{Bytes, Refused}
 use Rattle.key_text.specs.Text.{can_text, cannot_text, refused_text}
 
 -- t is a key for the bytes b: the highest answer, a set that proves the delivery impossible, or the first refusal
@@ -37,6 +36,6 @@ text_room = 6671
 abbrev pub key_room_checks : List ℕ → List Check
 key_room_checks text = (16 when length text < text_room) ∷ []
 
-abbrev pub Writes : List ℕ → (text text' : List ℕ) → KeyAnswer → Type 0
-Writes b text text' (Bytes n) = NoneOf (key_room_checks text) × Prints b text text' n
-Writes b text text' (Refused k p) = FirstOf (key_room_checks text) k p × (text' ≡ text)
+abbrev pub Writes : List ℕ → (text text' : List ℕ) → Result ℕ Refusal → Type 0
+Writes b text text' (Ok n) = NoneOf (key_room_checks text) × Prints b text text' n
+Writes b text text' (Err r) = FirstOf (key_room_checks text) r.number r.place × (text' ≡ text)

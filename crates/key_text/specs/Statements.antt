@@ -3,6 +3,7 @@
 -- of what they print. Settings are any function from edges to whole numbers. The proofs are in proofs/Statements.antt.
 use Rattle.std.specs.Prelude.{ℕ, ◌≤◌, ◌≡◌, ◌⊎◌, ◌↔◌, List, ◌++◌, get_or, length, take, drop, ℤ}
 use Rattle.refusals.specs.Order.{NoneOf, FirstOf}
+use Rattle.refusals.specs.Refused.{refused}
 use Rattle.flows.specs.ProvingSet.{SetOf, member, size}
 use Rattle.records.specs.Sheet.{nodes_of, edges_of}
 use Rattle.texts.specs.Decimal.{decimal, number}
@@ -11,7 +12,6 @@ use Rattle.analyser.specs.Statements.{HighestFor, Possible, Impossible, ProvesOf
 use Rattle.analyser.specs.Drops.{NotEvenInDrops}
 use Rattle.key_text.specs.Question.{source_of, sink_of, value_of, sheet_of, key_checks}
 use Rattle.key_text.specs.Text.{can_word, cannot_word, refused_word, can_text, cannot_text, refused_text}
-use Rattle.key_text.specs.declared.KeyAnswer.TheVariants.{Refused}
 use Rattle.key_text.specs.Key.{Key, Prints, Writes}
 use Rattle.key_text.specs.Input.{input_room}
 
@@ -46,7 +46,7 @@ pub record KeyText : Type 0 where
   pub unread : (n : ℕ) → input_room ≤ n → (b t : List ℕ) → Key b t ↔ Key (take n b) t
   -- behind a key the slice is as it was; all of it where there is no room for some key
   pub rest_kept : (b text text' : List ℕ) (n : ℕ) → Prints b text text' n → drop n text' ≡ drop n text
-  pub short_kept : (b text text' : List ℕ) (k p : ℕ) → Writes b text text' (Refused k p) → text' ≡ text
+  pub short_kept : (b text text' : List ℕ) (k p : ℕ) → Writes b text text' (refused k p) → text' ≡ text
 
 -- ── numbers in a text are in base ten ──
 pub record Numbers : Type 0 where

@@ -14,28 +14,8 @@ ghost use Rattle.key_text.specs.Key.{Prints, text_room, Writes};
 ghost use Rattle.key_text.specs.Input.{input_room, Begins};
 ghost use Rattle.key_text.specs.inner.Named.{KeyNamed, WriteNamed};
 
-use questions::SolveAnswer;
-use refusals::Verdict;
-
-// The number of an edge or a node, of a refusal, of a set's size, at the width in which digits are taken; the bound says how many there are.
-fn index(e: usize) -> u32
-    requires { e < 1000 }
-    ensures { result ≡ e }
-{
-    e as u32
-}
-
-fn byte(k: u8) -> u32
-    ensures { (result ≡ k) × (result < 256) }
-{
-    k as u32
-}
-
-fn short(n: u16) -> u32
-    ensures { (result ≡ n) × (result < 65536) }
-{
-    n as u32
-}
+use questions::Solution;
+use refusals::{Refusal, refused};
 
 // "refused" and the number of the refusal.
 pub fn put_refused(text: &mut [u8], k: u8) -> usize
@@ -43,7 +23,7 @@ pub fn put_refused(text: &mut [u8], k: u8) -> usize
     ensures { Placed 0 (refused_text k) text.old text.new result }
 {
     let at = texts::put_bytes(text, 0, b"refused ");
-    let end = texts::put_decimal(text, at, byte(k));
+    let end = texts::put_decimal(text, at, u32::from(k));
     texts::put_bytes(text, end, b"\n")
 }
 
@@ -52,7 +32,7 @@ fn put_edge(text: &mut [u8], at: usize, e: usize, flow: i32) -> usize
     requires { (at + 13 ≤ length text.old) × (e < 1000) × Limited 1000000 flow }
     ensures { Placed at (edge_line e flow) text.old text.new result }
 {
-    let first = texts::put_decimal(text, at, index(e));
+    let first = texts::put_decimal(text, at, e as u32);
     let second = texts::put_bytes(text, first, b" ");
     let end = texts::put_number(text, second, flow);
     texts::put_bytes(text, end, b"\n")
@@ -64,10 +44,8 @@ fn put_edges(text: &mut [u8], at: usize, edges: usize, flows: &[i32; 512]) -> us
     ensures { Placed at (lines edges (λ e. edge_line e (atℤ flows.now e))) text.old text.new result }
 {
     let mut end = at;
-    let mut e: usize = 0;
-    while e < edges {
+    for e in 0..edges {
         end = put_edge(text, end, e, flows[e]);
-        e += 1;
     }
     end
 }
@@ -98,7 +76,7 @@ fn put_node(text: &mut [u8], at: usize, set: &[u64; 9], v: usize) -> usize
     ensures { Placed at (node_line set.now v) text.old text.new result }
 {
     if node_sets::contains(set, v) {
-        let end = texts::put_decimal(text, at, index(v));
+        let end = texts::put_decimal(text, at, v as u32);
         return texts::put_bytes(text, end, b"\n");
     }
     at
@@ -110,10 +88,8 @@ fn put_nodes(text: &mut [u8], at: usize, nodes: usize, set: &[u64; 9]) -> usize
     ensures { Placed at (lines nodes (node_line set.now)) text.old text.new result }
 {
     let mut end = at;
-    let mut v: usize = 0;
-    while v < nodes {
+    for v in 0..nodes {
         end = put_node(text, end, set, v);
-        v += 1;
     }
     end
 }
@@ -126,7 +102,7 @@ fn put_cannot_line(text: &mut [u8], value: i32, size: u16) -> usize
     let first = texts::put_bytes(text, 0, b"cannot ");
     let second = texts::put_number(text, first, value);
     let third = texts::put_bytes(text, second, b" ");
-    let end = texts::put_decimal(text, third, short(size));
+    let end = texts::put_decimal(text, third, u32::from(size));
     texts::put_bytes(text, end, b"\n")
 }
 
@@ -147,11 +123,10 @@ fn put_answer(sheet: &[u8], source: u16, sink: u16, value: i32, text: &mut [u8])
 {
     let mut flows = [0i32; 512];
     let mut set = [0u64; 9];
-    let answer = analyser::solve(sheet, source, sink, value, &mut flows, &mut set);
-    match answer {
-        SolveAnswer::Can => put_can(text, value, records::edges_of(sheet), &flows),
-        SolveAnswer::Cannot(n) => put_cannot(text, value, n, records::nodes_of(sheet), &set),
-        SolveAnswer::Refused(k, p) => put_refused(text, k),
+    match analyser::solve(sheet, source, sink, value, &mut flows, &mut set) {
+        Ok(Solution::Can) => put_can(text, value, records::edges_of(sheet), &flows),
+        Ok(Solution::Cannot(n)) => put_cannot(text, value, n, records::nodes_of(sheet), &set),
+        Err(refusal) => put_refused(text, refusal.number),
     }
 }
 
@@ -160,9 +135,8 @@ fn put_key(input: &[u8], text: &mut [u8]) -> usize
     requires { text_room ≤ length text.old }
     ensures { Prints input.now text.old text.new result × KeyNamed input.now text.new result }
 {
-    let whole = records::check_record(input, 3, 0);
-    if let Verdict::Refused(k, p) = whole {
-        return put_refused(text, k);
+    if let Err(refusal) = records::check_record(input, 3, 0) {
+        return put_refused(text, refusal.number);
     }
     let source = fields::read_u16(input, 1);
     let sink = fields::read_u16(input, 3);
@@ -188,19 +162,12 @@ pub fn key_of_input(buffer: &[u8], n: usize, text: &mut [u8; 6671]) -> usize
     key_text(&buffer[0..n], text)
 }
 
-// How many bytes of the lent slice are the key, or the number of a refusal and its place.
-#[derive(Clone, Copy)]
-pub enum KeyAnswer {
-    Bytes(usize),
-    Refused(u8, u16),
-}
-
-// The key in a slice of any length: 16 where that is shorter than some key.
-pub fn write_key(input: &[u8], text: &mut [u8]) -> KeyAnswer
+// The key in a slice of any length, and how many bytes of it are the key: 16 where it is shorter than some key.
+pub fn write_key(input: &[u8], text: &mut [u8]) -> Result<usize, Refusal>
     ensures { Writes input.now text.old text.new result × WriteNamed input.now text.new result }
 {
     if text.len() < 6671 {
-        return KeyAnswer::Refused(16, 0);
+        return refused(16);
     }
-    KeyAnswer::Bytes(put_key(input, text))
+    Ok(put_key(input, text))
 }

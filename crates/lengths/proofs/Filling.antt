@@ -7,14 +7,14 @@ use Prim.Native.Nat.{ℕ, ◌<◌}
 use native.Mathlib.Omega.{arith}
 use lib.Dec.{eqb}
 use mir.Syntax.{w32}
-use mir.Val.{to_z, of_z, SFits}
+use mir.Val.{to_z, of_z}
 use lib.IntN.{ℤ, pos, neg_ℤ, ◌-ℤ◌, ◌*ℤ◌}
 use Rattle.integers.specs.Sum.{when}
 use Rattle.integers.specs.inner.Limited.{Limited}
 use Rattle.integers.proofs.Omega.{atoms₂, atoms₃, atoms₄, parts, equal, at_most}
 use Rattle.integers.proofs.Tests.{eqb_eq, eqb_ne}
-use Rattle.integers.proofs.Limits.{limited_more, limited_minus}
-use Rattle.signed.proofs.Limits.{limited_fits, same_bits}
+use Rattle.integers.proofs.Limits.{limited_minus}
+use Rattle.signed.proofs.Limits.{same_bits}
 use Rattle.maps.specs.Dart.{rev}
 use Rattle.maps.specs.Map.{Map}
 use Rattle.maps.specs.Walk.{Walk}
@@ -53,16 +53,6 @@ nothing = record { low = at_most (search parts) (omega arith); high = at_most (s
 
 module _ {n start finish : ℕ} {order from : ℕ → ℕ} {capacity : ℕ → ℤ} {value : ℤ} (ok : Fillable n start finish order from capacity value) where
   -- ── the climb from the finish, with the value ──
-  pub down_climbable : {copied : ℕ → ℤ} → ((d : ℕ) → d < n → copied d ≡ capacity d) → Climbable n finish order from copied value
-  down_climbable same = record {
-    few = ok.few;
-    map = ok.map;
-    treed = ok.treed;
-    below = ok.finish_in;
-    short = λ d l. subst (Limited most_length) (sym (same d l)) (limited_more (omega arith) (ok.capacities d l));
-    small = ok.small;
-  }
-
   module _ {copied less : ℕ → ℤ} (same : (d : ℕ) → d < n → copied d ≡ capacity d) {down : ℕ} (α : Climbed n finish order from value copied less down) where
     taken : (d : ℕ) → d < n → less d ≡ capacity d -ℤ value *ℤ α.flow d
     taken d l = α.lengths d l ∙ ap (λ c. c -ℤ value *ℤ α.flow d) (same d l)
@@ -166,7 +156,3 @@ pub fill_from_bits : {n start finish : ℕ} {order from : ℕ → ℕ} {capacity
     → Filled n start finish order from capacity (to_z w32 (of_z w32 value)) length joined → Filled n start finish order from capacity value length joined
 fill_from_bits {n} {start} {finish} {order} {from} {capacity} {value} {length} {joined} small =
     subst (λ v. Filled n start finish order from capacity v length joined) (same_bits (omega arith) small)
-
--- a step of the machine from 0 to the negative of a value
-pub turn_fits : {value : ℤ} → Limited most_value value → SFits w32 (pos 0 -ℤ value)
-turn_fits {value} h = limited_fits most_value (pos 0 -ℤ value) (omega arith) (limited_minus nothing h)

@@ -2,23 +2,12 @@
 // ends the tree is climbed to its first dart, from each dart to the one that it was met from; what both climbs cross is cancelled.
 #![tactic(auto)]
 
-ghost use Rattle.std.specs.Prelude.{◌≡◌, ◌≢◌, ℕ, ◌<◌, ◌≤◌, eqb, length, pos, ◌-ℤ◌, ◌*ℤ◌};
+ghost use Rattle.std.specs.Prelude.{◌≡◌, ◌≢◌, ℕ, ◌<◌, eqb, length, pos, ◌-ℤ◌, ◌*ℤ◌};
 ghost use Rattle.integers.specs.Sum.{when};
 ghost use Rattle.lengths.specs.inner.Lengths.{Climbable, Climbed, Fillable, Filled};
 ghost use Rattle.arrays.specs.At.{at, atℤ};
 ghost use Rattle.integers.specs.inner.Limited.{Limited};
 ghost use Rattle.arrays.specs.inner.Sizes.{most_length, most_value};
-
-fn copy_capacities(capacities: &[i32; 1024], darts: usize, lengths: &mut [i32; 1024])
-    requires { (length lengths.old ≡ 1024) × (darts ≤ 1024) }
-    ensures { (length lengths.new ≡ 1024) × ((d : ℕ) → d < darts → atℤ lengths.new d ≡ atℤ capacities.now d) }
-{
-    let mut d: usize = 0;
-    while d < darts {
-        lengths[d] = capacities[d];
-        d += 1;
-    }
-}
 
 // Takes the value over one edge: its dart p, which the path goes along, gets shorter by the value, and the other dart x gets longer by it.
 fn carry(lengths: &mut [i32; 1024], p: usize, x: usize, value: i32)
@@ -47,6 +36,7 @@ fn climb(
 {
     let mut y: usize = x;
     let mut p = arrays::wide(from[x]);
+    // A while loop: it walks up a tree, from a dart to the one that it was met from.
     while p != y {
         let child = y;
         y = p;
@@ -75,7 +65,7 @@ pub fn fill_lengths(
     ensures { (length lengths.new ≡ 1024)
         × Filled darts start finish (at order.now) (at from.now) (atℤ capacities.now) value (atℤ lengths.new) result }
 {
-    copy_capacities(capacities, darts, lengths);
+    lengths[..darts].copy_from_slice(&capacities[..darts]);
     let down = climb(order, from, darts, finish, value, lengths);
     let against = signed::minus(0, value);
     let up = climb(order, from, darts, start, against, lengths);

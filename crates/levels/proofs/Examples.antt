@@ -6,7 +6,7 @@ use native.Mathlib.Omega.{arith}
 use lib.IntN.{pos, negsuc}
 use lib.Signed.{lt_z_yes}
 use Rattle.refusals.specs.Order.{FirstOf, Judged}
-use Rattle.refusals.specs.declared.Verdict.TheVariants.{Refused}
+use Rattle.refusals.specs.Refused.{refused}
 use Rattle.refusals.proofs.Order.{neither}
 use Rattle.maps.specs.Dart.{rev}
 use Rattle.arrays.specs.At.{at, atℤ}
@@ -20,7 +20,7 @@ beyond_outside : LevelOutside (negsuc 600000000) × LevelOutside (pos 600000001)
 beyond_outside = (inl (lt_z_yes tt), inr (lt_z_yes tt))
 
 -- face 0 is not at 0, and face 1 is beyond: refused by 19
-beyond_first : Judged (level_checks 2 (λ f. f ≡ 0) (atℤ (pos 1 ∷ pos 600000001 ∷ []))) (Refused 19 0)
+beyond_first : Judged (level_checks 2 (λ f. f ≡ 0) (atℤ (pos 1 ∷ pos 600000001 ∷ []))) (refused 19 0)
 unfolding level_checks FirstOf
 beyond_first = inl ((1, omega arith, inr (lt_z_yes tt)), refl, refl)
 

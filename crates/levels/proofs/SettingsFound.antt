@@ -6,7 +6,8 @@ use native.Mathlib.Omega.{arith}
 use lib.ListN.{length, drop}
 use lib.IntN.{ℤ, ◌-ℤ◌}
 use Rattle.refusals.specs.Order.{NoneOf, Judged}
-use Rattle.refusals.specs.declared.Verdict.{Verdict}
+use Rattle.std.specs.Prelude.{Result}
+use Rattle.refusals.specs.declared.Refusal.{Refusal}
 use Rattle.refusals.proofs.Same.{Same, same_in_turn, judged_same}
 use Rattle.maps.specs.Dart.{rev}
 use Rattle.maps.specs.Map.{Map, darts}
@@ -43,7 +44,7 @@ module _ {𝓜 : Map} {left : ℕ → ℕ} {faces outer : ℕ} {capacity : ℕ �
         )
 
     -- levels that agree on the faces are judged alike
-    pub levels_judged : (ρ ρ' : ℕ → ℤ) → ((f : ℕ) → f < faces → ρ f ≡ ρ' f) → (v : Verdict) → Judged (level_checks faces (OneOf roots count) ρ) v
+    pub levels_judged : (ρ ρ' : ℕ → ℤ) → ((f : ℕ) → f < faces → ρ f ≡ ρ' f) → (v : Result Unit Refusal) → Judged (level_checks faces (OneOf roots count) ρ) v
         → Judged (level_checks (face.faces 𝓜) (ZeroFace 𝓜 outer) ρ') v
     unfolding level_checks Same
     levels_judged ρ ρ' same v j =
@@ -86,7 +87,7 @@ module _ {𝓜 : Map} {left : ℕ → ℕ} {faces outer : ℕ} {capacity : ℕ �
     across_of : (e : ℕ) → e < 𝓜.edges → across left ρ e ≡ from_levels 𝓜 ρ' e
     across_of e l = ap₂ ◌-ℤ◌ (level_of (2 * e) (omega arith)) (level_of (rev (2 * e)) (rev_in 𝓜.edges (2 * e) (omega arith)))
 
-    pub differences_within : (v : Verdict) → Judged (within_checks 𝓜.edges capacity (across left ρ)) v
+    pub differences_within : (v : Result Unit Refusal) → Judged (within_checks 𝓜.edges capacity (across left ρ)) v
         → Judged (within_checks 𝓜.edges capacity (from_levels 𝓜 ρ')) v
     unfolding within_checks Same
     differences_within v j =

@@ -1,7 +1,8 @@
 -- Settings from levels, on a drawing. Document 01, "Operations": after the checks on the drawing 16 as in Levels from settings, "19 a level beyond
 -- ±600,000,000, 20 face 0 not at 0, 17." 19 and 20 are `level_checks`.
-use Rattle.std.specs.Prelude.{ℕ, ◌*◌, ◌<◌, ◌≡◌, ◌⊎◌, List, ◌∷◌, ◌++◌, length, ℤ}
+use Rattle.std.specs.Prelude.{ℕ, ◌*◌, ◌<◌, ◌≡◌, ◌⊎◌, List, ◌∷◌, ◌++◌, length, ℤ, Result, Ok, Err}
 use Rattle.refusals.specs.Order.{Check, ◌when◌, NoneOf, FirstOf}
+use Rattle.refusals.specs.declared.Refusal.{Refusal}
 use Rattle.maps.specs.Map.{Map}
 use Rattle.maps.specs.Drawing.{Drawing}
 use Rattle.maps.specs.Face.{faces}
@@ -11,8 +12,6 @@ use Rattle.flows.specs.Check.{within_checks}
 use Rattle.arrays.specs.At.{atℤ}
 use Rattle.arrays.specs.Filled.{filled}
 use Rattle.levels.specs.Level.{level_checks}
-use Rattle.levels.specs.declared.LevelAnswer.{LevelAnswer}
-use Rattle.levels.specs.declared.LevelAnswer.TheVariants.{Done, Refused}
 
 -- the setting of edge e: the level left of dart 2e less the level right of it
 abbrev pub from_levels : Map → (ℕ → ℤ) → ℕ → ℤ
@@ -25,6 +24,6 @@ leveled_checks 𝓓 levels flows =
     ++ within_checks 𝓓.map.edges 𝓓.capacity (from_levels 𝓓.map (atℤ levels)))
 
 -- what the operation answers, where `checks` are its refusals in order
-abbrev pub SettingsGiven : Drawing → List Check → List ℤ → (flows flows' : List ℤ) → LevelAnswer → Type 0
-SettingsGiven 𝓓 checks levels flows flows' Done = NoneOf checks × (flows' ≡ filled 𝓓.map.edges (from_levels 𝓓.map (atℤ levels)) flows)
-SettingsGiven 𝓓 checks levels flows flows' (Refused k p) = FirstOf checks k p × (flows' ≡ flows)
+abbrev pub SettingsGiven : Drawing → List Check → List ℤ → (flows flows' : List ℤ) → Result Unit Refusal → Type 0
+SettingsGiven 𝓓 checks levels flows flows' (Ok done) = NoneOf checks × (flows' ≡ filled 𝓓.map.edges (from_levels 𝓓.map (atℤ levels)) flows)
+SettingsGiven 𝓓 checks levels flows flows' (Err r) = FirstOf checks r.number r.place × (flows' ≡ flows)

@@ -17,7 +17,7 @@ ghost use Rattle.arrays.specs.inner.Sizes.{most_on_sheet};
 ghost use Rattle.refusals.specs.Order.{Decides, Judged};
 ghost use Rattle.arrays.specs.Filled.{filled};
 
-use refusals::Verdict;
+use refusals::{Refusal, refused, refused_at};
 
 // Whether a level is not from -600,000,000 to 600,000,000.
 fn level_outside(x: i32) -> bool
@@ -34,26 +34,21 @@ fn level_outside(x: i32) -> bool
 
 // Refusals 19 and 20: "19 a level beyond ±600,000,000, 20 face 0 not at 0"; of the faces at 0 there is one to a part (document 02, Job 8), and they stand in
 // the first places of `roots`. All faces are looked at for 19 before these are for 20.
-fn check_levels(levels: &[i32], faces: usize, roots: &[u16; 1024], count: usize) -> Verdict
-    requires { (count ≤ 1024) × ((m : ℕ) → m < count → at roots.now m < faces) × (length levels.now ≡ faces) }
-    ensures { Judged (level_checks faces (OneOf (at roots.now) count) (atℤ levels.now)) result }
+fn check_levels(levels: &[i32], roots: &[u16; 1024], count: usize) -> Result<(), Refusal>
+    requires { (count ≤ 1024) × ((m : ℕ) → m < count → at roots.now m < length levels.now) }
+    ensures { Judged (level_checks (length levels.now) (OneOf (at roots.now) count) (atℤ levels.now)) result }
 {
-    let mut f: usize = 0;
-    while f < faces {
-        if level_outside(levels[f]) {
-            return Verdict::Refused(19, 0);
+    for &level in levels {
+        if level_outside(level) {
+            return refused(19);
         }
-        f += 1;
     }
-    let mut m: usize = 0;
-    while m < count {
-        let z = arrays::wide(roots[m]);
-        if levels[z] != 0 {
-            return Verdict::Refused(20, 0);
+    for &root in &roots[0..count] {
+        if levels[arrays::wide(root)] != 0 {
+            return refused(20);
         }
-        m += 1;
     }
-    Verdict::Passed
+    Ok(())
 }
 
 // The flow of edge e: the level left of its dart 2e less the level right of it. Levels of at most 600,000,000 differ by less than 2^31.
@@ -73,19 +68,17 @@ fn check_differences<'a>(
     capacities: &'a [i32; 1024],
     edges: usize,
     levels: &[i32],
-) -> Verdict
+) -> Result<(), Refusal>
     requires { (edges ≤ 512) × HaveLevels edges (at lefts.now) levels.now }
     ensures { Judged (within_checks edges (atℤ capacities.now) (across (at lefts.now) (atℤ levels.now))) result }
 {
-    let mut e: usize = 0;
-    while e < edges {
+    for e in 0..edges {
         let x = drop_across(levels, lefts, e);
         if balance::exceeds(capacities[2 * e], capacities[2 * e + 1], x) {
-            return Verdict::Refused(17, arrays::narrow(e));
+            return refused_at(17, arrays::narrow(e));
         }
-        e += 1;
     }
-    Verdict::Passed
+    Ok(())
 }
 
 // The flows that the levels give, into a slice with one place for each edge.
@@ -93,10 +86,8 @@ fn fill_differences(lefts: &[u16; 1024], edges: usize, levels: &[i32], flows: &m
     requires { (edges ≤ 512) × (length flows.old ≡ edges) × HaveLevels edges (at lefts.now) levels.now }
     ensures { flows.new ≡ filled edges (across (at lefts.now) (atℤ levels.now)) flows.old }
 {
-    let mut e: usize = 0;
-    while e < edges {
+    for e in 0..edges {
         flows[e] = drop_across(levels, lefts, e);
-        e += 1;
     }
 }
 
@@ -128,10 +119,8 @@ fn fill_levels(
     let start = arrays::wide(order[0]);
     let root = arrays::wide(lefts[start]);
     levels[root] = 0;
-    let mut i: usize = 1;
-    while i < darts {
+    for i in 1..darts {
         let d = arrays::wide(order[i]);
-        i += 1;
         let p = arrays::wide(from[d]);
         let across = arrays::wide(lefts[d]);
         if p == d {
@@ -164,13 +153,6 @@ fn write_levels<'a>(
     fill_levels(lefts, &order, &from, 2 * edges, flows, levels);
 }
 
-// What the two level operations answer: done, or the number of a refusal and its place.
-#[derive(Clone, Copy)]
-pub enum LevelAnswer {
-    Done,
-    Refused(u8, u16),
-}
-
 // Levels from settings on a drawing that is open and sound. Nothing is written before the last check.
 pub fn levels_of<'a>(
     tails: &'a [u16; 1024],
@@ -183,7 +165,7 @@ pub fn levels_of<'a>(
     outer: usize,
     flows: &[i32],
     levels: &mut [i32],
-) -> LevelAnswer
+) -> Result<(), Refusal>
     requires { Drawn (map_of nodes edges tails.now rotations.now) (at lefts.now) faces outer (atℤ capacities.now)
         × ((d : ℕ) → d < 2 * edges → Limited most_on_sheet (atℤ capacities.now d)) }
     ensures { LevelsGiven (drawing_of nodes edges outer tails.now rotations.now capacities.now)
@@ -192,22 +174,16 @@ pub fn levels_of<'a>(
         flows.now levels.old levels.new result }
 {
     if flows.len() < edges {
-        return LevelAnswer::Refused(16, 0);
+        return refused(16);
     }
     if levels.len() < faces {
-        return LevelAnswer::Refused(16, 0);
+        return refused(16);
     }
     let given = &flows[0..edges];
-    let within = balance::check_within(capacities, edges, given);
-    if let Verdict::Refused(k, p) = within {
-        return LevelAnswer::Refused(k, p);
-    }
-    let balanced = balance::check_all_balanced(tails, nodes, edges, given);
-    if let Verdict::Refused(k, p) = balanced {
-        return LevelAnswer::Refused(k, p);
-    }
+    balance::check_within(capacities, edges, given)?;
+    balance::check_all_balanced(tails, nodes, edges, given)?;
     write_levels(rotations, lefts, edges, outer, given, &mut levels[0..faces]);
-    LevelAnswer::Done
+    Ok(())
 }
 
 // Settings from levels on a drawing that is open and sound. Flows are written only after every check. `tails` and `nodes` are named by the contract only.
@@ -222,7 +198,7 @@ pub fn settings_of<'a>(
     outer: usize,
     levels: &[i32],
     flows: &mut [i32],
-) -> LevelAnswer
+) -> Result<(), Refusal>
     requires { Drawn (map_of nodes edges tails.now rotations.now) (at lefts.now) faces outer (atℤ capacities.now) }
     ensures { SettingsGiven (drawing_of nodes edges outer tails.now rotations.now capacities.now)
         (leveled_checks (drawing_of nodes edges outer tails.now rotations.now capacities.now)
@@ -230,22 +206,16 @@ pub fn settings_of<'a>(
         levels.now flows.old flows.new result }
 {
     if flows.len() < edges {
-        return LevelAnswer::Refused(16, 0);
+        return refused(16);
     }
     if levels.len() < faces {
-        return LevelAnswer::Refused(16, 0);
+        return refused(16);
     }
     let mut roots = [0u16; 1024];
     let count = traversal::roots_of(rotations, lefts, 2 * edges, outer, &mut roots);
     let given = &levels[0..faces];
-    let judged = check_levels(given, faces, &roots, count);
-    if let Verdict::Refused(k, p) = judged {
-        return LevelAnswer::Refused(k, p);
-    }
-    let within = check_differences(lefts, capacities, edges, given);
-    if let Verdict::Refused(k, p) = within {
-        return LevelAnswer::Refused(k, p);
-    }
+    check_levels(given, &roots, count)?;
+    check_differences(lefts, capacities, edges, given)?;
     fill_differences(lefts, edges, given, &mut flows[0..edges]);
-    LevelAnswer::Done
+    Ok(())
 }

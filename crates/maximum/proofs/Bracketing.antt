@@ -8,16 +8,16 @@ use native.Mathlib.Omega.{arith}
 use lib.Dec.{eqb}
 use lib.ListN.{length, drop}
 use lib.IntN.{ℤ, pos, neg_ℤ, ◌+ℤ◌}
-use lib.Seq.{drop-append_seam}
 use lib.Signed.{◌≤ℤ◌, ◌<ℤ◌}
+use Rattle.std.specs.Prelude.{Option, Some, None}
+use Rattle.std.proofs.lemmas.List.{drop_all, drop_at}
 use mir.Syntax.{w32}
 use mir.Val.{to_z, of_z}
 use Rattle.integers.specs.inner.Limited.{Limited}
-use Rattle.integers.specs.Sum.{bit}
 use Rattle.integers.proofs.Omega.{atoms₂, atoms₃, atoms₄, parts, at_most, less, from_equal, from_at_most, from_less}
 use Rattle.integers.proofs.Laws.{lt_le_clash, le_trans, le_antisym, le_of_lt, lt_or_ge}
 use Rattle.integers.proofs.Limits.{limited_neg, limited_more}
-use Rattle.integers.proofs.Tests.{eqb_true, eqb_false, ltb_true}
+use Rattle.integers.proofs.Tests.{eqb_true, eqb_false}
 use Rattle.signed.proofs.Limits.{same_bits}
 use Rattle.maps.specs.Dart.{rev}
 use Rattle.maps.specs.Map.{Map, darts}
@@ -41,12 +41,10 @@ use Rattle.flows.proofs.Interval.{
 }
 use Rattle.flows.specs.inner.Sides.{AtSource, AtSink, Beside}
 use Rattle.flows.proofs.ValueBound.{value_small, cut_small}
-use Rattle.flows.proofs.Limits.{settings_limited}
-use Rattle.flows.proofs.OnDarts.{on_darts_even}
 use Rattle.arrays.specs.Filled.{tabulate, filled}
 use Rattle.arrays.specs.At.{atℤ}
-use Rattle.arrays.proofs.Tabulate.{length_tabulate, tabulate_ext}
-use Rattle.arrays.proofs.FillLoops.{filled_at, filled_length}
+use Rattle.arrays.proofs.Tabulate.{length_tabulate}
+use Rattle.arrays.proofs.FillLoops.{filled_length}
 use Rattle.cuts.specs.inner.Cut.{cut_of}
 use Rattle.cuts.proofs.CutOfMap.{cut-of}
 use Rattle.node_flags.specs.inner.Flags.{Sided}
@@ -64,8 +62,6 @@ use Rattle.maximum.specs.inner.Narrowing.{SameFlags, Narrows, Lowers, stays, fal
 use Rattle.maximum.specs.inner.Maximum.{Maximized}
 use Rattle.maximum.specs.inner.Underway.{LentPivots}
 use Rattle.maximum.specs.declared.Narrowed.{Narrowed}
-use Rattle.maximum.specs.declared.Maximum.{Maximum}
-use Rattle.maximum.specs.declared.Maximum.TheVariants as maximum
 
 -- ── numbers between the bounds ──
 pub between_limited : (n : ℕ) (low value high : ℤ) → low ≤ℤ value → value ≤ℤ high → Limited n low → Limited n high → Limited n value
@@ -88,19 +84,12 @@ le_lt : {x y z : ℤ} → x ≤ℤ y → y <ℤ z → x <ℤ z
 le_lt {x} {y} {z} k l = let a = atoms₃ x y z in less (search parts) (omega (arith, from_less l (search parts), from_at_most k (search parts)))
 
 -- filled twice is filled once
-drop_tabulate : (n : ℕ) (f : ℕ → ℤ) (rest : List ℤ) → drop n (tabulate n f ++ rest) ≡ rest
-drop_tabulate n f rest = ap (λ k. drop k (tabulate n f ++ rest)) (sym (length_tabulate n f)) ∙ drop-append_seam (tabulate n f) rest
-
 pub filled_again : (n : ℕ) (f g : ℕ → ℤ) (before flows : List ℤ) → flows ≡ filled n g before → filled n f flows ≡ filled n f before
-filled_again n f g before flows e = ap (λ l. tabulate n f ++ l) (ap (drop n) e ∙ drop_tabulate n g (drop n before))
+filled_again n f g before flows e = ap (λ l. tabulate n f ++ l) (ap (drop n) e ∙ drop_at (tabulate n g) (drop n before) n (length_tabulate n g))
 
--- ── a slice that was filled, read and copied ──
-module _ (n : ℕ) (x : ℕ → ℤ) (old known : List ℤ) (is-filled : known ≡ filled n x old) (room : n ≤ length old) where
-  pub read_back : (d : ℕ) → d < n → atℤ known d ≡ x d
-  read_back d l = ap (λ k. atℤ k d) is-filled ∙ filled_at n x old (pos 0) room d ∙ (rw (ltb_true d n l))
-
-  pub copied : (before after : List ℤ) → after ≡ filled n (atℤ known) before → after ≡ filled n x before
-  copied before after h = h ∙ ap (λ l. l ++ drop n before) (tabulate_ext n (atℤ known) x read_back)
+-- a slice that was filled, as one that fills another of the same length
+pub copied : (n : ℕ) (x : ℕ → ℤ) (old known before : List ℤ) → known ≡ filled n x old → length old ≡ n → length before ≡ n → known ≡ filled n x before
+copied n x old known before e l k = e ∙ ap (λ r. tabulate n x ++ r) (drop_all n old (omega arith) ∙ sym (drop_all n before (omega arith)))
 
 -- the ground of a question: a plane map with the capacities of a sheet, and two ends
 pub record Ground (𝓜 : Map) (c : ℕ → ℤ) (s t : ℕ) : Type 0 where
@@ -212,19 +201,13 @@ module _ {𝓜 : Map} (outer : ℕ) {c : ℕ → ℤ} {s t : ℕ} (ground : Grou
       → Bracket 𝓜 outer c s t before flows A B low high true
   begins_on before flows A B low high x side is-high h e = record { ceiling = ceiling_of A high side is-high; floor = (x, h, e) }
 
-  -- the flow of an edge is no more than a sheet's capacity
-  pub flow_small : (value : ℤ) (x : ℕ → ℤ) → Highest 𝓜 outer c s t value x → (e : ℕ) → e < 𝓜.edges → Limited 1000000 (x e)
-  flow_small value x h e l =
-      subst (Limited 1000000) (on_darts_even x e)
-      (settings_limited 𝓜 1000000 c x (λ d m. (ground.small d m).high) h.carries.within (2 * e) (omega arith))
-
   -- ── the bounds after a probe of a value between them are closer ──
   module _ (low high value : ℤ) (found : Bool) (at_least_lem : low ≤ℤ value) (at_most : value ≤ℤ high) where
     pub narrowed_closer : (inside : List ℕ) → Proves 𝓜 c s t value (flagged inside) → (A A' B B' : List ℕ) (n : Narrowed) (side : Side)
-        → Sided s t (flagged inside) side → Narrows (cut_of (darts 𝓜) 𝓜.tail c (flagged inside)) low high inside A A' B B' n side → n.none ≡ false
+        → Sided s t (flagged inside) side → Narrows (cut_of (darts 𝓜) 𝓜.tail c (flagged inside)) low high inside A A' B B' (Some n) side
         → Closer low high found n.low n.high found
-    narrowed_closer inside proves A A' B B' n side.Source h r e = record {
-      rises = le_of_equal (sym r.1);
+    narrowed_closer inside proves A A' B B' n side.Source h r = record {
+      rises = le_of_equal (sym r.0);
       falls = le_of_lt below;
       still = λ k. k;
       less = inr (inl below);
@@ -232,17 +215,17 @@ module _ {𝓜 : Map} (outer : ℕ) {c : ℕ → ℤ} {s t : ℕ} (ground : Grou
       where
         below : n.high <ℤ high
         below =
-            lt_le (rw (r.2, ← cut-of 𝓜 c (flagged inside)) (source_short 𝓜 c s t (flagged inside) h value proves)) at_most
-    narrowed_closer inside proves A A' B B' n side.Sink h r e = record {
+            lt_le (rw (r.1, ← cut-of 𝓜 c (flagged inside)) (source_short 𝓜 c s t (flagged inside) h value proves)) at_most
+    narrowed_closer inside proves A A' B B' n side.Sink h r = record {
       rises = le_of_lt above;
-      falls = le_of_equal r.2;
+      falls = le_of_equal r.1;
       still = λ k. k;
       less = inl above;
     }
       where
         above : low <ℤ n.low
-        above = le_lt at_least_lem (rw (r.1, ← cut-of 𝓜 c (flagged inside)) (sink_short 𝓜 c s t (flagged inside) h value proves))
-    narrowed_closer inside proves A A' B B' n side.Beside h r e = absurd (omega (arith, ap bit (sym e ∙ r.0)))
+        above = le_lt at_least_lem (rw (r.0, ← cut-of 𝓜 c (flagged inside)) (sink_short 𝓜 c s t (flagged inside) h value proves))
+    narrowed_closer inside proves A A' B B' n side.Beside h r = absurd r
 
     pub carried_closer : (high' : ℤ) → high' ≤ℤ high → (found ≡ true → low <ℤ value) → Closer low high found value high' true
     carried_closer high' l above = record { rises = at_least_lem; falls = l; still = λ _. refl; less = by found above }
@@ -253,10 +236,10 @@ module _ {𝓜 : Map} (outer : ℕ) {c : ℕ → ℤ} {s t : ℕ} (ground : Grou
 
   -- ── what is found from these bounds on, told of the slice before they were ──
   pub told_before : (before since : List ℤ) (A B : List ℕ) (low high : ℤ) (found : Bool) → Bracket 𝓜 outer c s t before since A B low high found
-      → (flows : List ℤ) (A' : List ℕ) (r : Maximum) → Maximized 𝓜 outer c s t since flows A' r → Maximized 𝓜 outer c s t before flows A' r
-  told_before before since A B low high true b flows A' (maximum.Value v) r =
+      → (flows : List ℤ) (A' : List ℕ) (r : Option ℤ) → Maximized 𝓜 outer c s t since flows A' r → Maximized 𝓜 outer c s t before flows A' r
+  told_before before since A B low high true b flows A' (Some v) r =
       ((r.0.0, r.0.1, r.0.2 ∙ filled_again 𝓜.edges r.0.0 b.floor.0 before since b.floor.2), r.1, r.2)
-  told_before before since A B low high true b flows A' maximum.Nothing r =
+  told_before before since A B low high true b flows A' None r =
       absurd (proves_excludes ground.plane.sound.range ground.two.source_in ground.two.sink_in ground.two.two c low (flagged A')
       (beside_proves 𝓜 c s t (flagged A') r.1 r.2 low) b.floor.0 b.floor.1.carries)
   told_before before since A B low high false b flows A' r h = subst (λ l. Maximized 𝓜 outer c s t l flows A' r) b.floor.0 h
@@ -338,24 +321,24 @@ module _ {𝓜 : Map} (outer : ℕ) {c : ℕ → ℤ} {s t : ℕ} (ground : Grou
             rw is_cut (sink_short 𝓜 c s t (flagged inside) side value proves),
           )
 
-      pub beside : Beside s t (flagged inside) → (A' : List ℕ) → SameFlags A' inside → Maximized 𝓜 outer c s t before flows A' maximum.Nothing
+      pub beside : Beside s t (flagged inside) → (A' : List ℕ) → SameFlags A' inside → Maximized 𝓜 outer c s t before flows A' None
       beside side A' same = go found refl b.floor
         where
-          go : (f : Bool) → found ≡ f → Floor 𝓜 outer c s t before flows (flagged B) low f → Maximized 𝓜 outer c s t before flows A' maximum.Nothing
+          go : (f : Bool) → found ≡ f → Floor 𝓜 outer c s t before flows (flagged B) low f → Maximized 𝓜 outer c s t before flows A' None
           go true q h = absurd (excluded (flagged inside) (beside_proves_all 𝓜 c s t (flagged inside) side value proves low) q)
           go false q h = (h.0, same s s_in ∙ side ∙ sym (same t t_in), rw (same_cut A' inside same) (beside_short 𝓜 c s t (flagged inside) side value proves))
 
     -- ── the bounds have met: the high one is carried ──
-    pub met : found ≡ true → low ≡ high → Maximized 𝓜 outer c s t before flows A (maximum.Value high)
+    pub met : found ≡ true → low ≡ high → Maximized 𝓜 outer c s t before flows A (Some high)
     met e q =
         let r = subst (Floor 𝓜 outer c s t before flows (flagged B) low) e b.floor in
         ((r.0, subst (λ v. Highest 𝓜 outer c s t v r.0) q r.1, r.2), b.ceiling.side, b.ceiling.is_cut)
 
     -- ── the bounds have passed each other: the two sets joined ──
-    pub passed : high <ℤ low → (A' : List ℕ) → Joins (darts 𝓜) 𝓜.tail c A A' B → Maximized 𝓜 outer c s t before flows A' maximum.Nothing
+    pub passed : high <ℤ low → (A' : List ℕ) → Joins (darts 𝓜) 𝓜.tail c A A' B → Maximized 𝓜 outer c s t before flows A' None
     passed l A' j = go found refl b.floor
       where
-        go : (f : Bool) → found ≡ f → Floor 𝓜 outer c s t before flows (flagged B) low f → Maximized 𝓜 outer c s t before flows A' maximum.Nothing
+        go : (f : Bool) → found ≡ f → Floor 𝓜 outer c s t before flows (flagged B) low f → Maximized 𝓜 outer c s t before flows A' None
         go true q h =
             absurd (lt_le_clash l (rw b.ceiling.is_cut (source_limits ground.plane.sound.range ground.two.source_in
             ground.two.sink_in ground.two.two c (flagged A) b.ceiling.side low h.0 h.1.carries)))
@@ -370,7 +353,7 @@ module _ {𝓜 : Map} (outer : ℕ) {c : ℕ → ℤ} {s t : ℕ} (ground : Grou
             agree : (S : ℕ → Bool) → ((u : ℕ) → u < 1024 → flagged A' u ≡ S u) → cut 𝓜 c (flagged A') ≡ cut 𝓜 c S
             agree S same = cut_agrees ground.plane.sound.range (flagged A') S (λ v m. same v (omega (arith, ground.few_nodes))) c
 
-            by : Joins (darts 𝓜) 𝓜.tail c A A' B → Maximized 𝓜 outer c s t before flows A' maximum.Nothing
+            by : Joins (darts 𝓜) 𝓜.tail c A A' B → Maximized 𝓜 outer c s t before flows A' None
             by (inl r) =
                 let both = union_both 𝓜 c s t (flagged A) (flagged B) b.ceiling.side h.1 in
                 (h.0, r.0 s s_in ∙ both.0 ∙ sym (r.0 t t_in ∙ both.1), rw (agree _ r.0, cut-of 𝓜 c (union (flagged A) (flagged B))) r.1)
@@ -384,29 +367,29 @@ module _ {𝓜 : Map} (outer : ℕ) {c : ℕ → ℤ} {s t : ℕ} (ground : Grou
 
     -- ── what a probe that cannot does, on whichever side its set lies ──
     module _ (value : ℤ) (at_least_lem : low ≤ℤ value) (at_most : value ≤ℤ high) (inside : List ℕ)
-        (proves : Proves 𝓜 c s t value (flagged inside)) (A' B' : List ℕ) (n : Narrowed) where
+        (proves : Proves 𝓜 c s t value (flagged inside)) (A' B' : List ℕ) where
       abbrev total : ℤ
       total = cut_of (darts 𝓜) 𝓜.tail c (flagged inside)
 
-      pub nothing : (side : Side) → Sided s t (flagged inside) side → Narrows total low high inside A A' B B' n side
-          → n.none ≡ true → Maximized 𝓜 outer c s t before flows A' maximum.Nothing
-      nothing side.Source h r e = absurd (omega (arith, ap bit (sym r.0 ∙ e)))
-      nothing side.Sink h r e = absurd (omega (arith, ap bit (sym r.0 ∙ e)))
-      nothing side.Beside h r e = beside value at_least_lem inside proves h A' r.1
+      pub nothing : (side : Side) → Sided s t (flagged inside) side → Narrows total low high inside A A' B B' None side
+          → Maximized 𝓜 outer c s t before flows A' None
+      nothing side.Source h r = absurd r
+      nothing side.Sink h r = absurd r
+      nothing side.Beside h r = beside value at_least_lem inside proves h A' r
 
-      pub narrowed : (side : Side) → Sided s t (flagged inside) side → Narrows total low high inside A A' B B' n side → n.none ≡ false
+      pub narrowed : (n : Narrowed) (side : Side) → Sided s t (flagged inside) side → Narrows total low high inside A A' B B' (Some n) side
           → Bracket 𝓜 outer c s t before flows A' B' n.low n.high found
-      narrowed side.Source h r e = rw (r.1, r.4) (at_source value at_least_lem inside proves h A' r.3 n.high r.2).0
-      narrowed side.Sink h r e = rw (r.2, r.3) (at_sink value at_least_lem inside proves h B' r.4 n.low r.1).1
-      narrowed side.Beside h r e = absurd (omega (arith, ap bit (sym e ∙ r.0)))
+      narrowed n side.Source h r = rw (r.0, r.3) (at_source value at_least_lem inside proves h A' r.2 n.high r.1).0
+      narrowed n side.Sink h r = rw (r.1, r.2) (at_sink value at_least_lem inside proves h B' r.3 n.low r.0).1
+      narrowed n side.Beside h r = absurd r
 
 -- ── bounds that are passed on come as the numbers of their bits ──
 module _ {𝓜 : Map} (outer : ℕ) {c : ℕ → ℤ} {s t : ℕ} (ground : Ground 𝓜 c s t) (before flows : List ℤ) (A B : List ℕ) (low high : ℤ) (found : Bool)
     (b : Bracket 𝓜 outer c s t before flows A B low high found) where
-  same_low : to_z w32 (of_z w32 low) ≡ low
+  pub same_low : to_z w32 (of_z w32 low) ≡ low
   same_low = same_bits (omega arith) (low_small outer ground before flows (flagged B) low found b.floor)
 
-  same_high : to_z w32 (of_z w32 high) ≡ high
+  pub same_high : to_z w32 (of_z w32 high) ≡ high
   same_high = same_bits (omega arith) (high_small outer ground b.ceiling)
 
   pub bits_bracket : Bracket 𝓜 outer c s t before flows A B (to_z w32 (of_z w32 low)) (to_z w32 (of_z w32 high)) found
@@ -427,7 +410,7 @@ same_bracket {𝓜} {outer} {c} {s} {t} {before} {A = A} {B = B} {low = low} {hi
     subst (λ f. Bracket 𝓜 outer c s t before f A B low high found) (sym e) b
 
 pub nothing_here : (𝓜 : Map) (outer : ℕ) (c : ℕ → ℤ) (s t : ℕ) (before flows flows' : List ℤ) (A : List ℕ) → flows' ≡ flows
-    → Maximized 𝓜 outer c s t before flows A maximum.Nothing → Maximized 𝓜 outer c s t before flows' A maximum.Nothing
+    → Maximized 𝓜 outer c s t before flows A None → Maximized 𝓜 outer c s t before flows' A None
 nothing_here 𝓜 outer c s t before flows flows' A e h = (e ∙ h.0, h.1, h.2)
 
 -- the slice is as long as it was
@@ -435,11 +418,6 @@ pub bracket_length : {𝓜 : Map} {outer : ℕ} {c : ℕ → ℤ} {s t : ℕ} {b
     → 𝓜.edges ≤ length before → Bracket 𝓜 outer c s t before flows A B low high found → length flows ≡ length before
 bracket_length {𝓜} {before = before} {flows = flows} true room b = filled_length 𝓜.edges b.floor.0 before flows b.floor.2 room
 bracket_length false room b = ap length b.floor.0
-
-pub maximized_length : (𝓜 : Map) (outer : ℕ) (c : ℕ → ℤ) (s t : ℕ) (before flows : List ℤ) (A : List ℕ) (r : Maximum) → 𝓜.edges ≤ length before
-    → Maximized 𝓜 outer c s t before flows A r → length flows ≡ length before
-maximized_length 𝓜 outer c s t before flows A (maximum.Value v) room h = filled_length 𝓜.edges h.0.0 before flows h.0.2 room
-maximized_length 𝓜 outer c s t before flows A maximum.Nothing room h = ap length h.0
 
 -- the same bounds, with the slice as it is for the slice before
 pub anew : {𝓜 : Map} {outer : ℕ} {c : ℕ → ℤ} {s t : ℕ} {before flows : List ℤ} {A B : List ℕ} {low high : ℤ} (found : Bool)

@@ -1,5 +1,4 @@
 -- The bounds between probes, and the three ways in which they meet.
 pub mod Gap
-pub mod Stepping
 pub mod Joining
 pub mod Bracketing

@@ -10,8 +10,7 @@
 // bounds is probed at least every other time, so some 60 decisions do for any capacities. What a decision costs is said in `search`.
 #![tactic(auto)]
 
-ghost use Rattle.std.specs.Prelude.{◌≡◌, true, false, ◌⊎◌, List, ℕ, ◌*◌, ◌%◌, ◌<◌, ◌≤◌, length, ℤ, pos, neg_ℤ, ◌≤ℤ◌, ◌<ℤ◌};
-ghost use Rattle.std.specs.Int.Signed.{lt_z};
+ghost use Rattle.std.specs.Prelude.{◌≡◌, true, false, IfSome, ◌⊎◌, List, ℕ, ◌*◌, ◌%◌, ◌<◌, ◌≤◌, length, ℤ, pos, neg_ℤ, ◌≤ℤ◌, ◌<ℤ◌};
 ghost use Rattle.integers.specs.inner.Limited.{Limited};
 ghost use Rattle.flows.specs.Highest.{Highest};
 ghost use Rattle.flows.specs.inner.Sides.{AtSource};
@@ -33,7 +32,7 @@ use arrays::{Demand, Sizes, Terminals};
 use node_flags::Side;
 
 // Which value is probed next: the high bound, the one nearest to zero, the high bound again, or the middle of the two bounds.
-#[derive(Clone, Copy)]
+#[derive(Clone, Copy, PartialEq, Eq)]
 enum Next {
     High,
     Zero,
@@ -41,15 +40,14 @@ enum Next {
     Middle,
 }
 
-// What is known between two probes: the two bounds, whether the low one is found, which means that it is carried, and which value is probed next. Or that
-// nothing at all can be carried.
+// What is known between two probes: the two bounds, whether the low one is found, which means that it is carried, and which value is probed next. Found is a
+// flag, as the low bound is a value either way.
 #[derive(Clone, Copy)]
 struct Bounds {
     low: i32,
     high: i32,
     found: bool,
     next: Next,
-    none: bool,
 }
 
 // A question that is not answered yet: its nodes, and the bounds of its answer.
@@ -59,19 +57,11 @@ struct Pending {
     bounds: Bounds,
 }
 
-// The two bounds after a proving set, or that it shows that there is nothing between any.
+// The two bounds after a proving set.
 #[derive(Clone, Copy)]
 struct Narrowed {
     low: i32,
     high: i32,
-    none: bool,
-}
-
-// The largest value, or that nothing at all can be carried.
-#[derive(Clone, Copy)]
-pub enum Maximum {
-    Value(i32),
-    Nothing,
 }
 
 // The negative of a total of capacities.
@@ -79,13 +69,7 @@ pub fn negate(x: i32) -> i32
     requires { Limited 2048000000 x }
     ensures { result ≡ neg_ℤ x }
 {
-    signed::minus(0, x)
-}
-
-fn is_less(x: i32, y: i32) -> bool
-    ensures { result ≡ lt_z x y }
-{
-    x < y
+    -x
 }
 
 // The value nearest to zero between the bounds.
@@ -93,13 +77,7 @@ fn nearest_zero(low: i32, high: i32) -> i32
     requires { low ≤ℤ high }
     ensures { (low ≤ℤ result) × (result ≤ℤ high) }
 {
-    if is_less(0, low) {
-        return low;
-    }
-    if is_less(high, 0) {
-        return high;
-    }
-    0
+    0i32.clamp(low, high)
 }
 
 // The middle of the two bounds, rounded up.
@@ -107,7 +85,7 @@ fn middle(low: i32, high: i32) -> i32
     requires { (low ≤ℤ high) × Limited 600000000 low × Limited 600000000 high }
     ensures { (low ≤ℤ result) × (result ≤ℤ high) × (low <ℤ high → low <ℤ result) }
 {
-    signed::minus(high, signed::halve(signed::minus(high, low)))
+    high - (high - low) / 2
 }
 
 // The value to probe next. The high bound is the answer if it is carried; the value nearest to zero is the likeliest to be carried, and no use once one is
@@ -116,13 +94,10 @@ fn next_value(low: i32, high: i32, found: bool, next: Next) -> i32
     requires { (low ≤ℤ high) × Limited 600000000 low × Limited 600000000 high }
     ensures { (low ≤ℤ result) × (result ≤ℤ high) × (found ≡ true → low <ℤ high → low <ℤ result) }
 {
-    if let Next::Middle = next {
+    if next == Next::Middle {
         return middle(low, high);
     }
-    if found {
-        return high;
-    }
-    if let Next::Zero = next {
+    if next == Next::Zero && !found {
         return nearest_zero(low, high);
     }
     high
@@ -151,10 +126,7 @@ fn next_after(next: Next, found: bool) -> Next {
 fn finished(low: i32, high: i32, found: bool) -> bool
     ensures { (result ≡ true → (found ≡ true) × (low ≡ high)) × (result ≡ false → found ≡ true → low ≡ high → ⊥) }
 {
-    if found {
-        return low == high;
-    }
-    false
+    found && low == high
 }
 
 // Flags a set around the source to begin with, and answers whether its cut is likely to be the answer.
@@ -205,22 +177,21 @@ fn first_bounds(
     if likely {
         return Bounds {
             low: LOWEST,
-            high: high,
+            high,
             found: false,
             next: Next::High,
-            none: false,
         };
     }
     Bounds {
         low: negate(cuts::capacity(tails, capacities, b, darts)),
-        high: high,
+        high,
         found: false,
         next: Next::Zero,
-        none: false,
     }
 }
 
-// What the flagged nodes, which prove a value impossible, do to the bounds. A set at the source is kept in a, one at the sink in b, and one beside both in a.
+// What the flagged nodes, which prove a value impossible, do to the bounds: a set beside both ends shows that there is nothing between any. A set at the source
+// is kept in a, one at the sink in b, and one beside both in a.
 fn narrow_by(
     tails: &[u16; 1024],
     capacities: &[i32; 1024],
@@ -232,7 +203,7 @@ fn narrow_by(
     high: i32,
     a: &mut [u8; 1024],
     b: &mut [u8; 1024],
-) -> Narrowed
+) -> Option<Narrowed>
     requires { (length a.old ≡ 1024) × (length b.old ≡ 1024) × (source < 1024) × (sink < 1024) × (darts ≤ 1024) × (darts % 2 ≡ 0)
         × ((d : ℕ) → d < darts → at tails.now d < 1024) × ((d : ℕ) → d < darts → Limited 2000000 (atℤ capacities.now d)) }
     ensures { (length a.new ≡ 1024) × (length b.new ≡ 1024)
@@ -241,28 +212,22 @@ fn narrow_by(
         low high inside.now a.old a.new b.old b.new result side) }
 {
     let total = cuts::capacity(tails, capacities, inside, darts);
-    let side = node_flags::side_of(inside, source, sink);
-    if let Side::Source = side {
-        node_flags::copy_flags(inside, a);
-        return Narrowed {
-            low: low,
-            high: total,
-            none: false,
-        };
-    }
-    if let Side::Sink = side {
-        node_flags::copy_flags(inside, b);
-        return Narrowed {
-            low: negate(total),
-            high: high,
-            none: false,
-        };
-    }
-    node_flags::copy_flags(inside, a);
-    Narrowed {
-        low: low,
-        high: high,
-        none: true,
+    match node_flags::side_of(inside, source, sink) {
+        Side::Source => {
+            node_flags::copy_flags(inside, a);
+            Some(Narrowed { low, high: total })
+        }
+        Side::Sink => {
+            node_flags::copy_flags(inside, b);
+            Some(Narrowed {
+                low: negate(total),
+                high,
+            })
+        }
+        Side::Beside => {
+            node_flags::copy_flags(inside, a);
+            None
+        }
     }
 }
 
@@ -284,13 +249,12 @@ fn lower(
         high result inside.now a.old a.new }
 {
     let total = cuts::capacity(tails, capacities, inside, darts);
-    if is_less(total, high) {
-        let side = node_flags::side_of(inside, source, sink);
-        if let Side::Source = side {
+    let less = total < high;
+    if less {
+        if let Side::Source = node_flags::side_of(inside, source, sink) {
             node_flags::copy_flags(inside, a);
             return total;
         }
-        return high;
     }
     high
 }
@@ -310,10 +274,10 @@ fn join(
 {
     node_flags::either_and_both(&mut *a, &mut *b);
     let total = cuts::capacity(tails, capacities, &*a, darts);
-    if is_less(total, 0) {
-        return;
+    let below = total < 0;
+    if !below {
+        node_flags::copy_flags(&*b, a);
     }
-    node_flags::copy_flags(&*b, a);
 }
 
 // The high bound, lowered by a set that the pivots propose from the flows of the low one and from the tree of the faces that its search left; they leave
@@ -337,7 +301,7 @@ fn propose<'a>(
         (cut_of (2 * sizes.edges) (at tails.now) (atℤ capacities.now) (flagged inside))
         high result inside a.old a.new) }
 {
-    if finished(low, high, true) {
+    if low == high {
         return high;
     }
     let mut inside = [0u8; 1024];
@@ -383,27 +347,28 @@ fn probe<'a>(
     parents: &mut [u16; 1024],
     a: &mut [u8; 1024],
     b: &mut [u8; 1024],
-) -> Bounds
+) -> Option<Bounds>
     requires { ((before : List ℤ)
         × Underway sizes pending tails.now rotations.now lefts.now capacities.now order.now from.now grouped.now starts.now
         before flows.old a.old b.old)
         × (length parents.old ≡ 1024) × (pending.bounds.low ≤ℤ pending.bounds.high)
         × (pending.bounds.found ≡ true → pending.bounds.low <ℤ pending.bounds.high) }
     ensures { (length parents.new ≡ 1024) × (length a.new ≡ 1024) × (length b.new ≡ 1024)
-        × (result.none ≡ false → Closer pending.bounds.low pending.bounds.high pending.bounds.found result.low result.high result.found)
+        × IfSome result (λ r. Closer pending.bounds.low pending.bounds.high pending.bounds.found r.low r.high r.found)
         × Probes (map_of sizes.nodes sizes.edges tails.now rotations.now) sizes.outer (atℤ capacities.now)
         pending.terminals.source pending.terminals.sink flows.old flows.new a.old a.new
         b.old b.new pending.bounds result }
 {
     let terminals = pending.terminals;
-    let bounds = pending.bounds;
-    let low = bounds.low;
-    let high = bounds.high;
-    let found = bounds.found;
-    let next = bounds.next;
+    let Bounds {
+        low,
+        high,
+        found,
+        next,
+    } = pending.bounds;
     let value = next_value(low, high, found, next);
     let mut inside = [0u8; 1024];
-    if solver::decide(
+    let settled = solver::decide(
         tails,
         rotations,
         lefts,
@@ -416,41 +381,41 @@ fn probe<'a>(
         Demand {
             source: terminals.source,
             sink: terminals.sink,
-            value: value,
+            value,
         },
         &mut *parents,
         &mut *flows,
         &mut inside,
-    ) {
-        return Bounds {
-            low: value,
-            high: propose(
-                tails, lefts, capacities, sizes, terminals, value, high, &*flows, parents, a,
-            ),
-            found: true,
-            next: Next::High,
-            none: false,
-        };
-    }
-    let n = narrow_by(
-        tails,
-        capacities,
-        &inside,
-        2 * sizes.edges,
-        terminals.source,
-        terminals.sink,
-        low,
-        high,
-        a,
-        b,
     );
-    Bounds {
-        low: n.low,
-        high: n.high,
-        found: found,
-        next: next_after(next, found),
-        none: n.none,
+    let impossible = !settled;
+    if impossible {
+        let n = narrow_by(
+            tails,
+            capacities,
+            &inside,
+            2 * sizes.edges,
+            terminals.source,
+            terminals.sink,
+            low,
+            high,
+            a,
+            b,
+        )?;
+        return Some(Bounds {
+            low: n.low,
+            high: n.high,
+            found,
+            next: next_after(next, found),
+        });
     }
+    Some(Bounds {
+        low: value,
+        high: propose(
+            tails, lefts, capacities, sizes, terminals, value, high, &*flows, parents, a,
+        ),
+        found: true,
+        next: Next::High,
+    })
 }
 
 // Probes values until the bounds meet or pass each other. The set that bounds the answer, or shows that there is none, is left in a.
@@ -469,7 +434,7 @@ fn close_in<'a>(
     parents: &mut [u16; 1024],
     a: &mut [u8; 1024],
     b: &mut [u8; 1024],
-) -> Maximum
+) -> Option<i32>
     requires { Underway sizes begun tails.now rotations.now lefts.now capacities.now order.now from.now grouped.now starts.now
         flows.old flows.old a.old b.old × (length parents.old ≡ 1024) }
     ensures { (length parents.new ≡ 1024) × (length a.new ≡ 1024)
@@ -478,15 +443,21 @@ fn close_in<'a>(
 {
     let terminals = begun.terminals;
     let mut bounds = begun.bounds;
+    // A loop: how many probes are made is not known before.
     loop {
-        let low = bounds.low;
-        let high = bounds.high;
-        if is_less(high, low) {
+        let Bounds {
+            low,
+            high,
+            found,
+            ..
+        } = bounds;
+        let passed = high < low;
+        if passed {
             join(tails, capacities, 2 * sizes.edges, a, b);
-            return Maximum::Nothing;
+            return None;
         }
-        if finished(low, high, bounds.found) {
-            return Maximum::Value(high);
+        if finished(low, high, found) {
+            return Some(high);
         }
         bounds = probe(
             tails,
@@ -498,18 +469,12 @@ fn close_in<'a>(
             grouped,
             starts,
             sizes,
-            Pending {
-                terminals: terminals,
-                bounds: bounds,
-            },
+            Pending { terminals, bounds },
             &mut *flows,
             &mut *parents,
             &mut *a,
             &mut *b,
-        );
-        if bounds.none {
-            return Maximum::Nothing;
-        }
+        )?;
     }
 }
 
@@ -528,7 +493,7 @@ pub fn maximize_from<'a>(
     flows: &mut [i32],
     parents: &mut [u16; 1024],
     a: &mut [u8; 1024],
-) -> Maximum
+) -> Option<i32>
     requires { Lent sizes terminals.source terminals.sink tails.now rotations.now lefts.now capacities.now order.now from.now grouped.now
         starts.now flows.old
         × ((d : ℕ) → d < 2 * sizes.edges → Limited 1000000 (atℤ capacities.now d)) × (length a.old ≡ 1024) × (length parents.old ≡ 1024) }
@@ -558,10 +523,7 @@ pub fn maximize_from<'a>(
         grouped,
         starts,
         sizes,
-        Pending {
-            terminals: terminals,
-            bounds: bounds,
-        },
+        Pending { terminals, bounds },
         flows,
         parents,
         a,
@@ -583,7 +545,7 @@ pub fn maximize<'a>(
     terminals: Terminals,
     flows: &mut [i32],
     a: &mut [u8; 1024],
-) -> Maximum
+) -> Option<i32>
     requires { Lent sizes terminals.source terminals.sink tails.now rotations.now lefts.now capacities.now order.now from.now grouped.now
         starts.now flows.old
         × ((d : ℕ) → d < 2 * sizes.edges → Limited 1000000 (atℤ capacities.now d)) × (length a.old ≡ 1024) }
@@ -609,18 +571,6 @@ pub fn maximize<'a>(
     )
 }
 
-// Copies the flows of the edges.
-fn copy_flows(from: &[i32], edges: usize, to: &mut [i32])
-    requires { (length from.now ≡ edges) × (length to.old ≡ edges) × ((e : ℕ) → e < edges → Limited 1000000 (atℤ from.now e)) }
-    ensures { to.new ≡ filled edges (atℤ from.now) to.old }
-{
-    let mut e: usize = 0;
-    while e < edges {
-        to[e] = from[e];
-        e += 1;
-    }
-}
-
 // Where a value is known and the first high bound is likely to be the answer, that bound is probed: from no tree, since the parents are kept for the pivots
 // beside the flow of the value that is known.
 fn try_likely<'a>(
@@ -638,39 +588,36 @@ fn try_likely<'a>(
     flows: &mut [i32],
     a: &mut [u8; 1024],
     b: &mut [u8; 1024],
-) -> Bounds
-    requires { ((before : List ℤ)
+) -> Option<Bounds>
+    requires { (before : List ℤ)
         × Underway sizes given tails.now rotations.now lefts.now capacities.now order.now from.now grouped.now starts.now
-        before flows.old a.old b.old) × (given.bounds.none ≡ false) }
+        before flows.old a.old b.old }
     ensures { (length a.new ≡ 1024) × (length b.new ≡ 1024)
         × Probes (map_of sizes.nodes sizes.edges tails.now rotations.now) sizes.outer (atℤ capacities.now)
         given.terminals.source given.terminals.sink flows.old flows.new a.old a.new
         b.old b.new given.bounds result }
 {
     let bounds = given.bounds;
-    if !likely {
-        return bounds;
+    if !likely || bounds.high <= bounds.low {
+        return Some(bounds);
     }
-    if is_less(bounds.low, bounds.high) {
-        let mut parents = [1024u16; 1024];
-        return probe(
-            tails,
-            rotations,
-            lefts,
-            capacities,
-            order,
-            from,
-            grouped,
-            starts,
-            sizes,
-            given,
-            flows,
-            &mut parents,
-            a,
-            b,
-        );
-    }
-    bounds
+    let mut parents = [1024u16; 1024];
+    probe(
+        tails,
+        rotations,
+        lefts,
+        capacities,
+        order,
+        from,
+        grouped,
+        starts,
+        sizes,
+        given,
+        flows,
+        &mut parents,
+        a,
+        b,
+    )
 }
 
 // The largest value where one is known that is carried, that of the demand: its highest flow stands in `known`, and the parents are those that its search left.
@@ -689,7 +636,7 @@ pub fn maximize_on<'a>(
     flows: &mut [i32],
     parents: &mut [u16; 1024],
     a: &mut [u8; 1024],
-) -> Maximum
+) -> Option<i32>
     requires { Lent sizes demand.source demand.sink tails.now rotations.now lefts.now capacities.now order.now from.now grouped.now
         starts.now flows.old
         × ((d : ℕ) → d < 2 * sizes.edges → Limited 1000000 (atℤ capacities.now d)) × (length a.old ≡ 1024) × (length parents.old ≡ 1024)
@@ -700,7 +647,7 @@ pub fn maximize_on<'a>(
         demand.source demand.sink flows.old flows.new a.new result }
 {
     let carried = demand.value;
-    copy_flows(known, sizes.edges, &mut *flows);
+    flows.copy_from_slice(known);
     let likely = begin(
         tails,
         rotations,
@@ -720,7 +667,6 @@ pub fn maximize_on<'a>(
         high: cuts::capacity(tails, capacities, &*a, 2 * sizes.edges),
         found: true,
         next: Next::High,
-        none: false,
     };
     let tried = try_likely(
         tails,
@@ -734,16 +680,13 @@ pub fn maximize_on<'a>(
         sizes,
         likely,
         Pending {
-            terminals: terminals,
+            terminals,
             bounds: given,
         },
         &mut *flows,
         &mut *a,
         &mut b,
-    );
-    if tried.none {
-        return Maximum::Nothing;
-    }
+    )?;
     let high = propose(
         tails,
         lefts,
@@ -758,10 +701,9 @@ pub fn maximize_on<'a>(
     );
     let bounds = Bounds {
         low: tried.low,
-        high: high,
+        high,
         found: tried.found,
         next: Next::High,
-        none: false,
     };
     close_in(
         tails,
@@ -773,10 +715,7 @@ pub fn maximize_on<'a>(
         grouped,
         starts,
         sizes,
-        Pending {
-            terminals: terminals,
-            bounds: bounds,
-        },
+        Pending { terminals, bounds },
         flows,
         parents,
         a,

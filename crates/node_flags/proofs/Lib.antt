@@ -1,4 +1,2 @@
--- Sets of nodes as flags: the loops that copy and join them.
-pub mod Tested
-pub mod FillingFlags
+-- Sets of nodes as flags: worked examples.
 pub mod Examples

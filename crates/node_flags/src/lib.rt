@@ -7,7 +7,7 @@ ghost use Rattle.node_flags.specs.inner.Flags.{Sided};
 ghost use Rattle.arrays.specs.inner.Flags.{flagged};
 
 // On which side of a question a set of nodes lies: it holds the source only, the sink only, or both or neither.
-#[derive(Clone, Copy)]
+#[derive(Clone, Copy, Debug, PartialEq, Eq)]
 pub enum Side {
     Source,
     Sink,
@@ -19,9 +19,7 @@ pub fn flag_one(v: usize, inside: &mut [u8; 1024])
     requires { (length inside.old ≡ 1024) × (v < 1024) }
     ensures { (length inside.new ≡ 1024) × ((u : ℕ) → u < 1024 → flagged inside.new u ≡ eqb u v) }
 {
-    for u in 0..1024usize {
-        inside[u] = 0;
-    }
+    inside.fill(0);
     inside[v] = 1;
 }
 
@@ -29,9 +27,7 @@ pub fn copy_flags(from: &[u8; 1024], to: &mut [u8; 1024])
     requires { length to.old ≡ 1024 }
     ensures { (length to.new ≡ 1024) × ((u : ℕ) → u < 1024 → flagged to.new u ≡ flagged from.now u) }
 {
-    for u in 0..1024usize {
-        to[u] = from[u];
-    }
+    to.copy_from_slice(from);
 }
 
 // The flag of a node in the union, from its flags in the two sets.
@@ -67,14 +63,9 @@ pub fn side_of(inside: &[u8; 1024], source: usize, sink: usize) -> Side
     requires { (source < 1024) × (sink < 1024) }
     ensures { Sided source sink (flagged inside.now) result }
 {
-    if inside[source] == 1 {
-        if inside[sink] == 1 {
-            return Side::Beside;
-        }
-        return Side::Source;
+    match (inside[source] == 1, inside[sink] == 1) {
+        (true, false) => Side::Source,
+        (false, true) => Side::Sink,
+        _ => Side::Beside,
     }
-    if inside[sink] == 1 {
-        return Side::Sink;
-    }
-    Side::Beside
 }

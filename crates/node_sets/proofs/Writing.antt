@@ -1,15 +1,14 @@
 -- The loop that writes the words of a set in turn: its start, its step and its end; and what its caller has.
-use mathlib.Core.Path.{◌≡◌, refl, sym, ap, ◌∙◌, subst}
+use mathlib.Core.Path.{◌≡◌, sym, ap, ◌∙◌, subst}
 use mathlib.Core.Logic.{◌⊎◌, inl, inr}
 use mathlib.Core.Bool.{Bool, true, false, ◌&&◌}
 use mathlib.Core.List.{List, ◌++◌}
 use Prim.Native.Nat.{ℕ, ◌+◌, ◌*◌, ◌/◌, ◌%◌, ◌^◌, ◌≤◌, ◌<◌}
 use native.Mathlib.Omega.{arith}
-use native.Mathlib.Decide.{ℕ_discrete}
 use native.Mathlib.Nat.{div-eq_of_lt}
 use lib.Dec.{eqb, ltb, nltb→le}
-use lib.ListN.{length, get_or, take, drop, set, length-set, take-append-drop, get_or-eq_default}
-use lib.Seq.{ext_get_or, length-take-le, get_or-take, get_or-set_same, get_or-set_other, drop-set-lt}
+use lib.ListN.{length, get_or, take, drop, take-append-drop, get_or-eq_default}
+use lib.Seq.{ext_get_or, length-take-le, get_or-take}
 use lib.Pow.{pow_pos}
 use Rattle.integers.specs.Sum.{Naturals, bit, count}
 use Rattle.integers.proofs.Sums.{sum_ext}
@@ -25,37 +24,18 @@ pub record Writing (inside : List ℕ) (nodes : ℕ) (before now' : List ℕ) (j
   pub rest_kept : drop (words_for nodes) now' ≡ drop (words_for nodes) before
   pub done : (i : ℕ) → i < j → get_or now' i 0 ≡ set_word inside nodes i
 
-pub writing_start : (inside : List ℕ) (nodes : ℕ) (before : List ℕ) → Writing inside nodes before before 0
-writing_start inside nodes before = record { length_kept = refl; rest_kept = refl; done = λ i l. absurd (omega arith) }
-
-pub writing_step : (inside : List ℕ) (nodes : ℕ) (before now' : List ℕ) (j w : ℕ)
-    → Writing inside nodes before now' j → j < words_for nodes → words_for nodes ≤ length before → w ≡ set_word inside nodes j
-    → Writing inside nodes before (set now' j w) (j + 1)
-writing_step inside nodes before now' j w s l m e = record {
-  length_kept = length-set now' j w ∙ s.length_kept;
-  rest_kept = drop-set-lt (words_for nodes) now' j w l ∙ s.rest_kept;
-  done = λ i h. go i h (ℕ_discrete i j);
-}
-  where
-    kept : length now' ≡ length before
-    kept = s.length_kept
-
-    go : (i : ℕ) → i < j + 1 → Dec (i ≡ j) → get_or (set now' j w) i 0 ≡ set_word inside nodes i
-    go i h (yes q) = rw q (get_or-set_same now' j w 0 (omega (arith, kept, l, m)) ∙ e)
-    go i h (no c) = get_or-set_other now' j i w 0 c ∙ s.done i (omega (arith, c))
-
-pub flag_inside : (inside : List ℕ) (nodes v : ℕ) → v < nodes → flag inside nodes v ≡ eqb (get_or inside v 0) 1
+flag_inside : (inside : List ℕ) (nodes v : ℕ) → v < nodes → flag inside nodes v ≡ eqb (get_or inside v 0) 1
 flag_inside inside nodes v h = ap (λ (x : Bool). x && eqb (get_or inside v 0) 1) (ltb_true v nodes h)
 
-pub flag_outside : (inside : List ℕ) (nodes v : ℕ) → nodes ≤ v → flag inside nodes v ≡ false
+flag_outside : (inside : List ℕ) (nodes v : ℕ) → nodes ≤ v → flag inside nodes v ≡ false
 flag_outside inside nodes v h = ap (λ (x : Bool). x && eqb (get_or inside v 0) 1) (ltb_false v nodes h)
 
 at_least : (a b : ℕ) → ltb a b ≡ false → b ≤ a
 at_least a b e = nltb→le a b (rw e tt)
 
-pub writing_end : (inside : List ℕ) (nodes : ℕ) (before after : List ℕ)
-    → Writing inside nodes before after (words_for nodes) → words_for nodes ≤ length before → Written inside nodes before after
-writing_end inside nodes before after s m = record {
+pub writing_end : (inside : List ℕ) (nodes : ℕ) (before after : List ℕ) (j : ℕ)
+    → Writing inside nodes before after j → words_for nodes ≤ j → words_for nodes ≤ length before → Written inside nodes before after
+writing_end inside nodes before after j s f m = record {
   length_kept = s.length_kept;
   rest_kept = s.rest_kept;
   set_of = record {
@@ -76,7 +56,7 @@ writing_end inside nodes before after s m = record {
     taken = length-take-le (words_for nodes) after (omega (arith, kept, m))
 
     at : (i : ℕ) → i < words_for nodes → get_or (take (words_for nodes) after) i 0 ≡ set_word inside nodes i
-    at i h = get_or-take (words_for nodes) after i 0 h ∙ s.done i h
+    at i h = get_or-take (words_for nodes) after i 0 h ∙ s.done i (omega (arith, h, f))
 
     in-word : (v : ℕ) → v / 64 < words_for nodes → member (take (words_for nodes) after) v ≡ flag inside nodes v
     in-word v h =

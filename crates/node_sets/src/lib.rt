@@ -3,7 +3,6 @@
 #![tactic(auto)]
 
 ghost use Rattle.std.specs.Prelude.{◌≡◌, ◌+◌, ◌/◌, ◌^◌, ◌<◌, ◌≤◌, length, take};
-ghost use Rattle.std.specs.Int.Count.{ones};
 ghost use Rattle.flows.specs.ProvingSet.{words_for, member, size};
 ghost use Rattle.node_sets.specs.inner.Words.{flag, set_word, WordsLent, Written};
 
@@ -12,7 +11,7 @@ pub fn words_for(nodes: usize) -> usize
     requires { nodes ≤ 1024 }
     ensures { result ≡ words_for nodes }
 {
-    (nodes + 63) / 64
+    nodes.div_ceil(64)
 }
 
 // Whether v is a node and flagged. What the flags past the last node say is not read, so unused bits stay zero.
@@ -56,13 +55,6 @@ pub fn write_set(inside: &[u8; 1024], nodes: usize, words: &mut [u64])
     }
 }
 
-// The ones of one word.
-fn count_word(w: u64) -> usize
-    ensures { (result ≡ ones w) × (result ≤ 64) }
-{
-    u64::count_ones(w) as usize
-}
-
 // The size of the set, which has as many words as the nodes need: ones counted in each 64-bit word, and summed.
 pub fn count_set(words: &[u64], nodes: usize) -> usize
     requires { WordsLent nodes words.now }
@@ -70,8 +62,8 @@ pub fn count_set(words: &[u64], nodes: usize) -> usize
 {
     let n = words_for(nodes);
     let mut total: usize = 0;
-    for i in 0..n {
-        total += count_word(words[i]);
+    for word in &words[..n] {
+        total += word.count_ones() as usize;
     }
     total
 }

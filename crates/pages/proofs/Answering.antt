@@ -7,47 +7,49 @@ use native.Mathlib.Decide.{ℕ_discrete}
 use lib.ListN.{length, get_or, set, take, drop, replicate, length-set}
 use lib.Seq.{get_or-set_same, get_or-set_other}
 use lib.IntN.{ℤ}
+use Rattle.std.specs.Prelude.{Result, Ok}
 use Rattle.refusals.specs.Order.{NoneOf}
-use Rattle.refusals.specs.declared.Verdict.TheVariants.{Passed}
+use Rattle.refusals.specs.Refused.{refused}
+use Rattle.refusals.specs.declared.Refusal.{Refusal}
 use Rattle.refusals.proofs.Order.{neither}
 use Rattle.flows.specs.ProvingSet.{words_for}
 use Rattle.arrays.proofs.FillLoops.{same_everywhere}
-use Rattle.questions.specs.declared.SolveAnswer.{SolveAnswer}
-use Rattle.questions.specs.declared.SolveAnswer.TheVariants.{Refused}
+use Rattle.questions.specs.declared.Solution.{Solution}
 use Rattle.pages.specs.Stretch.{stretch, SameFrom}
 use Rattle.pages.specs.Page.{list_checks, Alone, Paged}
-use Rattle.pages.specs.declared.Answered.{Answered}
 use Rattle.pages.proofs.Stretches.{part_length, stretch_new, stretch_kept, same_behind, same_from_next, same_then}
 
-abbrev pub none : Answered
-none = record { answer = Refused 0 0 }
+abbrev pub none : Result Solution Refusal
+none = refused 0 0
 
-abbrev pub answer_in : List Answered → ℕ → SolveAnswer
-answer_in answers i = (get_or answers i none).answer
+abbrev pub answer_in : List (Result Solution Refusal) → ℕ → Result Solution Refusal
+answer_in answers i = get_or answers i none
 
 pub record Halfway (edges words : ℕ) (alone : ℕ → Alone) (flows₀ : List ℤ) (sets₀ : List ℕ)
-    (i : ℕ) (flows : List ℤ) (sets : List ℕ) (answers : List Answered) : Type 0 where
+    (i : ℕ) (flows : List ℤ) (sets : List ℕ) (answers : List (Result Solution Refusal)) : Type 0 where
   pub answered : (j : ℕ) → j < i
       → alone j (stretch edges j flows₀) (stretch edges j flows) (stretch words j sets₀) (stretch words j sets) (answer_in answers j)
   pub flows_behind : SameFrom (i * edges) flows₀ flows
   pub sets_behind : SameFrom (i * words) sets₀ sets
-  pub no_more : (j : ℕ) → i ≤ j → answer_in answers j ≡ Refused 0 0
+  pub no_more : (j : ℕ) → i ≤ j → answer_in answers j ≡ refused 0 0
   pub places : length answers ≡ 64
 
 module _ (edges words : ℕ) (alone : ℕ → Alone) (flows₀ : List ℤ) (sets₀ : List ℕ) where
-  pub halfway_start : Halfway edges words alone flows₀ sets₀ 0 flows₀ sets₀ (replicate 64 none)
-  halfway_start = record {
-    answered = λ j l. absurd (omega arith);
-    flows_behind = (refl, refl);
-    sets_behind = (refl, refl);
-    no_more = λ j l. ap (λ (a : Answered). a.answer) (same_everywhere 64 none j);
-    places = refl;
-  }
+  pub halfway_start : {a : Result Solution Refusal} → a ≡ none → Halfway edges words alone flows₀ sets₀ 0 flows₀ sets₀ (replicate 64 a)
+  halfway_start e =
+      rw e (record {
+        answered = λ j l. absurd (omega arith);
+        flows_behind = (refl, refl);
+        sets_behind = (refl, refl);
+        no_more = λ j l. same_everywhere 64 none j;
+        places = refl;
+      })
 
   -- question i, which got a part of each buffer, ys and zs in their places now
-  module _ (i : ℕ) (flows : List ℤ) (sets : List ℕ) (answers : List Answered) (so_far : Halfway edges words alone flows₀ sets₀ i flows sets answers)
+  module _ (i : ℕ) (flows : List ℤ) (sets : List ℕ) (answers : List (Result Solution Refusal))
+      (so_far : Halfway edges words alone flows₀ sets₀ i flows sets answers)
       (flows_room : i * edges + edges ≤ length flows) (sets_room : i * words + words ≤ length sets) (few : i < 64)
-      (ys : List ℤ) (zs : List ℕ) (answer : SolveAnswer) (ys-long : length ys ≡ edges) (zs-long : length zs ≡ words)
+      (ys : List ℤ) (zs : List ℕ) (answer : Result Solution Refusal) (ys-long : length ys ≡ edges) (zs-long : length zs ≡ words)
       (line : alone i (stretch edges i flows) ys (stretch words i sets) zs answer) where
     abbrev flows' : List ℤ
     flows' = take (i * edges) flows ++ (ys ++ drop edges (drop (i * edges) flows))
@@ -55,14 +57,14 @@ module _ (edges words : ℕ) (alone : ℕ → Alone) (flows₀ : List ℤ) (sets
     abbrev sets' : List ℕ
     sets' = take (i * words) sets ++ (zs ++ drop words (drop (i * words) sets))
 
-    abbrev answers' : List Answered
-    answers' = set answers i (record { answer = answer })
+    abbrev answers' : List (Result Solution Refusal)
+    answers' = set answers i answer
 
     placed : answer_in answers' i ≡ answer
-    placed = ap (λ (a : Answered). a.answer) (get_or-set_same answers i (record { answer = answer }) none (omega (arith, so_far.places)))
+    placed = get_or-set_same answers i answer none (omega (arith, so_far.places))
 
     others : (j : ℕ) → (j ≡ i → ⊥) → answer_in answers' j ≡ answer_in answers j
-    others j apart = ap (λ (a : Answered). a.answer) (get_or-set_other answers i j (record { answer = answer }) none apart)
+    others j apart = get_or-set_other answers i j answer none apart
 
     new_line : alone i (stretch edges i flows₀) (stretch edges i flows') (stretch words i sets₀) (stretch words i sets') (answer_in answers' i)
     new_line =
@@ -91,7 +93,7 @@ module _ (edges words : ℕ) (alone : ℕ → Alone) (flows₀ : List ℤ) (sets
       sets_behind = same_then ((i + 1) * words) sets₀ sets sets' (same_from_next words i sets₀ sets so_far.sets_behind)
           (same_behind words i sets zs sets_room zs-long);
       no_more = λ j l. others j (λ e. omega arith) ∙ so_far.no_more j (omega arith);
-      places = length-set answers i (record { answer = answer }) ∙ so_far.places;
+      places = length-set answers i answer ∙ so_far.places;
     }
       where
         lines : (j : ℕ) → j < i + 1 → Dec (j ≡ i)
@@ -100,21 +102,22 @@ module _ (edges words : ℕ) (alone : ℕ → Alone) (flows₀ : List ℤ) (sets
         lines j l (no e) = old_line j (omega (arith, e))
 
   -- the same as the code has it: the parts are told by their ends, and are as long as they were
-  pub halfway_turn : (i : ℕ) (flows : List ℤ) (sets : List ℕ) (answers : List Answered) → Halfway edges words alone flows₀ sets₀ i flows sets answers
+  pub halfway_turn : (i : ℕ) (flows : List ℤ) (sets : List ℕ) (answers : List (Result Solution Refusal))
+      → Halfway edges words alone flows₀ sets₀ i flows sets answers
       → i * edges + edges ≤ length flows → i * words + words ≤ length sets → i < 64
-      → (k m : ℕ) → edges ≡ k → words ≡ m → (ys : List ℤ) (zs : List ℕ) (answer : SolveAnswer)
+      → (k m : ℕ) → edges ≡ k → words ≡ m → (ys : List ℤ) (zs : List ℕ) (answer : Result Solution Refusal)
       → length ys ≡ length (take k (drop (i * edges) flows)) → length zs ≡ length (take m (drop (i * words) sets))
       → alone i (take k (drop (i * edges) flows)) ys (take m (drop (i * words) sets)) zs answer
       → Halfway edges words alone flows₀ sets₀ (i + 1)
       (take (i * edges) flows ++ (ys ++ drop k (drop (i * edges) flows))) (take (i * words) sets ++ (zs ++ drop m (drop (i * words) sets)))
-      (set answers i (record { answer = answer }))
+      (set answers i answer)
   halfway_turn i flows sets answers so_far flows_room sets_room few k m ke me ys zs answer ys-long zs-long line =
       subst (λ k. Halfway edges words alone flows₀ sets₀ (i + 1)
       (take (i * edges) flows ++ (ys ++ drop k (drop (i * edges) flows))) (take (i * words) sets ++ (zs ++ drop m (drop (i * words) sets)))
-      (set answers i (record { answer = answer }))) ke
+      (set answers i answer)) ke
       (subst (λ m. Halfway edges words alone flows₀ sets₀ (i + 1)
       (take (i * edges) flows ++ (ys ++ drop edges (drop (i * edges) flows))) (take (i * words) sets ++ (zs ++ drop m (drop (i * words) sets)))
-      (set answers i (record { answer = answer }))) me
+      (set answers i answer)) me
       (halfway_next i flows sets answers so_far flows_room sets_room few ys zs answer
       (ys-long ∙ ap (λ k. length (take k (drop (i * edges) flows))) (sym ke) ∙ part_length edges i flows flows_room)
       (zs-long ∙ ap (λ m. length (take m (drop (i * words) sets))) (sym me) ∙ part_length words i sets sets_room)
@@ -127,12 +130,12 @@ list_passed : (nodes edges n : ℕ) (flows : List ℤ) (sets : List ℕ) → n �
 unfolding list_checks NoneOf
 list_passed nodes edges n flows sets few flows_room sets_room = ((λ l. omega arith), (neither (λ l. omega arith) (λ l. omega arith), tt))
 
-pub all_answered : (nodes edges n words i : ℕ) (alone : ℕ → Alone) (flows flows' : List ℤ) (sets sets' : List ℕ) (answers : List Answered)
+pub all_answered : (nodes edges n words i : ℕ) (alone : ℕ → Alone) (flows flows' : List ℤ) (sets sets' : List ℕ) (answers : List (Result Solution Refusal))
     → words ≡ words_for nodes → Halfway edges words alone flows sets i flows' sets' answers → i ≡ n → n ≤ 64
     → n * edges ≤ length flows → n * words_for nodes ≤ length sets
     → Paged (list_checks nodes edges n flows sets) edges (words_for nodes) n alone flows flows' sets sets'
-    (record { verdict = Passed; count = n; answers = answers })
+    (Ok (record { count = n; answers = answers }))
 all_answered nodes edges n words i alone flows flows' sets sets' answers we h ie few flows_room sets_room =
     let g = subst (λ w. Halfway edges w alone flows sets i flows' sets' answers) we h in
     let k = subst (λ i. Halfway edges (words_for nodes) alone flows sets i flows' sets' answers) ie g in
-    ((list_passed nodes edges n flows sets few flows_room sets_room, refl, k.answered, k.flows_behind, k.sets_behind), k.no_more)
+    (list_passed nodes edges n flows sets few flows_room sets_room, refl, k.answered, k.flows_behind, k.sets_behind, k.no_more)

@@ -1,3 +1,4 @@
+pub mod Room
 pub mod Stretches
 pub mod Answering
 pub mod Listing

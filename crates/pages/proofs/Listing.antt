@@ -1,36 +1,23 @@
 -- Numbers of a list, the ways out of it, and questions gathered from a slice: they are those of the slice.
-use mathlib.Core.Path.{◌≡◌, refl, sym, ap, subst, ◌∙◌}
+use mathlib.Core.Path.{◌≡◌, refl, sym, ap, ◌∙◌}
 use mathlib.Core.Logic.{inl, inr}
-use mathlib.Core.List.{List}
+use mathlib.Core.List.{List, [], ◌∷◌, ◌++◌, append_assoc}
 use Prim.Native.Nat.{ℕ, zero, suc, ◌≤◌, ◌<◌, ◌+◌, ◌*◌, min}
 use native.Mathlib.Numerals.{add-one}
 use native.Mathlib.Omega.{arith}
 use native.Mathlib.Decide.{ℕ_discrete}
-use lib.ListN.{length, set, length-set}
-use lib.Seq.{get_or-set_same, get_or-set_other}
+use lib.ListN.{length, get_or, set, take, drop, length-set}
+use lib.Seq.{length-take-le, take-suc, drop-cons, set_at, get_or-set_same, get_or-set_other}
 use lib.IntN.{ℤ}
-use Rattle.refusals.specs.Order.{Check, NoneOf, FirstOf}
+use Rattle.refusals.specs.Order.{NoneOf}
 use Rattle.flows.specs.ProvingSet.{words_for}
-use Rattle.arrays.proofs.FillLoops.{same_everywhere}
-use Rattle.pages.specs.Question.{question_at}
-use Rattle.pages.specs.Page.{Alone, list_checks, Paged}
-use Rattle.pages.specs.inner.Listed.{emptyList, listed_at, gathered, list_of, refused_page}
+use Rattle.pages.specs.Question.{blank, question_at}
+use Rattle.pages.specs.Page.{list_checks}
+use Rattle.pages.specs.inner.Listed.{emptyList, listed_at, gathered, list_of}
 use Rattle.pages.specs.declared.Question.{Question}
 use Rattle.pages.specs.declared.Listed.{Listed}
-use Rattle.pages.specs.declared.Page.{Page}
-use Rattle.pages.specs.declared.Answered.{Answered}
-use Rattle.pages.proofs.Answering.{none}
 
-pub words_few : (nodes : ℕ) → nodes ≤ 1024 → words_for nodes ≤ 16
-words_few nodes h = omega arith
-
--- ── refused, and not refused ──
-pub refused_so : (checks : List Check) (edges words n : ℕ) (alone : ℕ → Alone) (flows : List ℤ) (sets : List ℕ) (k p : ℕ) (page : Page)
-    → FirstOf checks k p → page ≡ refused_page k p → Paged checks edges words n alone flows flows sets sets page
-refused_so checks edges words n alone flows sets k p page first e =
-    subst (λ page. Paged checks edges words n alone flows flows sets sets page) (sym e)
-    ((first, refl, refl, refl), λ i l. ap (λ (a : Answered). a.answer) (same_everywhere 64 none i))
-
+-- ── not refused ──
 pub list_accepted : (nodes edges n : ℕ) (flows : List ℤ) (sets : List ℕ) → NoneOf (list_checks nodes edges n flows sets)
     → (n ≤ 64) × (n * edges ≤ length flows) × (n * words_for nodes ≤ length sets)
 unfolding list_checks NoneOf
@@ -68,6 +55,22 @@ list_count n question = gathered_count question (emptyList n) (min n 64)
 -- where there are at most 64, each is in the list
 pub list_questions : (n : ℕ) (question : ℕ → Question) → n ≤ 64 → (i : ℕ) → i < n → question_at (list_of n question).questions i ≡ question i
 list_questions n question few i l = gathered_are question (emptyList n) (min n 64) i (omega arith) (omega arith)
+
+-- the questions of a slice, copied into the front of the list
+pub gathered_front : (questions : List Question) (list : Listed) (n : ℕ) → n ≤ length questions → n ≤ length list.questions
+    → gathered (question_at questions) n list ≡ record { count = list.count; questions = take n questions ++ drop n list.questions }
+unfolding gathered
+gathered_front questions list zero here there = refl
+gathered_front questions list (suc n) here there =
+    let q = question_at questions n in
+    let holding : List Question → Listed = λ l. record { count = list.count; questions = l } in
+    let step =
+    ap (λ l. set (take n questions ++ l) n q) (drop-cons list.questions n q (omega arith))
+    ∙ set_at (take n questions) (get_or list.questions n q) (drop (suc n) list.questions) q n (length-take-le n questions (omega arith))
+    ∙ sym (append_assoc (take n questions) (q ∷ []) (drop (suc n) list.questions))
+    ∙ ap (λ l. l ++ drop (suc n) list.questions) (sym (take-suc questions n blank (omega arith))) in
+    ap (λ (l : Listed). listed_at l n q) (gathered_front questions list n (omega arith) (omega arith))
+    ∙ ap holding step
 
 -- no question yet, and one more
 pub gathered_start : (question : ℕ → Question) (list : Listed) → list ≡ gathered question 0 list

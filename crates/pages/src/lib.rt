@@ -10,39 +10,33 @@ ghost use Rattle.arrays.specs.Maps.{drawing_of};
 ghost use Rattle.pages.specs.Question.{question_at, question_in};
 ghost use Rattle.pages.specs.Page.{list_checks, Paged};
 ghost use Rattle.pages.specs.inner.Lent.{StretchesLent, ListLent};
-ghost use Rattle.pages.specs.inner.Listed.{emptyList, listed_at, gathered, list_of, solved_alone, refused_page};
+ghost use Rattle.pages.specs.inner.Listed.{emptyList, listed_at, gathered, list_of, solved_alone};
 
 use arrays::{Demand, Sizes};
-use questions::SolveAnswer;
-use refusals::Verdict;
+use questions::Solution;
+use refusals::{Refusal, refused};
 
 // A question: a source, a sink and a value.
-#[derive(Clone, Copy)]
+#[derive(Clone, Copy, Debug, PartialEq, Eq)]
 pub struct Question {
     pub source: u16,
     pub sink: u16,
     pub value: i32,
 }
 
-// Questions by value: how many there are, and the first 64 of them.
+// Questions by value: how many there are, and the first 64 of them. The count stands beside them: memory is fixed, and a count above 64 is refused with 21.
 #[derive(Drop)]
 pub struct Listed {
     pub count: usize,
     pub questions: [Question; 64],
 }
 
-// An answer, as an element of an array.
-#[derive(Clone, Copy)]
-pub struct Answered {
-    pub answer: SolveAnswer,
-}
-
-// A page: whether it was refused, how many answers there are, and the answers in the order of the questions. Where there is none, it is Refused(0, 0).
+// A page: how many answers there are, and the answers in the order of the questions. Places from the count on hold a refusal of number 0.
+// The count stands beside the array: memory is fixed.
 #[derive(Clone, Copy)]
 pub struct Page {
-    pub verdict: Verdict,
     pub count: usize,
-    pub answers: [Answered; 64],
+    pub answers: [Result<Solution, Refusal>; 64],
 }
 
 // A list for n questions, with none in it yet.
@@ -64,7 +58,7 @@ pub fn empty_list(n: usize) -> Listed
 pub fn held(n: usize) -> usize
     ensures { result ≡ min n 64 }
 {
-    if n <= 64 { n } else { 64 }
+    n.min(64)
 }
 
 // The list with question q at place i.
@@ -82,14 +76,12 @@ pub fn gather(questions: &[Question], n: usize, list: Listed) -> Listed
     requires { (n ≤ length questions.now) × (n ≤ 64) }
     ensures { result ≡ gathered (question_at questions.now) n list }
 {
-    let mut next = list;
-    let mut i: usize = 0;
-    while i < n {
-        let q = questions[i];
-        next = with_question(next, i, q);
-        i += 1;
+    let mut all = list.questions;
+    all[..n].copy_from_slice(&questions[..n]);
+    Listed {
+        count: list.count,
+        questions: all,
     }
-    next
 }
 
 // The questions of a lent slice: how many there are, and the first 64 of them.
@@ -106,36 +98,36 @@ pub fn list_of(questions: &[Question]) -> Listed
 pub fn list_from(count: usize, sources: &[u16; 64], sinks: &[u16; 64], values: &[i32; 64]) -> Listed
     ensures { result ≡ list_of count (question_in sources.now sinks.now values.now) }
 {
-    let few = held(count);
     let mut next = empty_list(count);
-    let mut i: usize = 0;
-    while i < few {
-        let q = Question {
+    for i in 0..held(count) {
+        next.questions[i] = Question {
             source: sources[i],
             sink: sinks[i],
             value: values[i],
         };
-        next = with_question(next, i, q);
-        i += 1;
     }
     next
 }
 
 // Checks 21 and 16: at most 64 questions, and room for a stretch of each in both buffers.
-fn check_list(nodes: usize, edges: usize, n: usize, flows: &[i32], sets: &[u64]) -> Verdict
+#[tactic(auto, using(crate::proofs::Room::fits), unfolding(refusals::specs::Order::NoneOf, refusals::specs::Order::FirstOf, crate::specs::Page::list_checks))]
+fn check_list(
+    nodes: usize,
+    edges: usize,
+    n: usize,
+    flows: &[i32],
+    sets: &[u64],
+) -> Result<(), Refusal>
     requires { (nodes ≤ 1024) × (edges ≤ 512) }
     ensures { Judged (list_checks nodes edges n flows.now sets.now) result }
 {
     if 64 < n {
-        return Verdict::Refused(21, 0);
+        return refused(21);
     }
-    if flows.len() < n * edges {
-        return Verdict::Refused(16, 0);
+    if flows.len() < n * edges || sets.len() < n * node_sets::words_for(nodes) {
+        return refused(16);
     }
-    if sets.len() < n * node_sets::words_for(nodes) {
-        return Verdict::Refused(16, 0);
-    }
-    Verdict::Passed
+    Ok(())
 }
 
 // One question, taken apart, is put to Solve with the slices that are lent for it: a place for each edge, and a word for each that the nodes need.
@@ -152,7 +144,7 @@ fn ask<'a>(
     q: Question,
     flows: &mut [i32],
     set: &mut [u64],
-) -> SolveAnswer
+) -> Result<Solution, Refusal>
     requires { OpenDrawing sizes tails.now rotations.now lefts.now capacities.now order.now from.now grouped.now starts.now
         × StretchesLent sizes flows.old set.old }
     ensures { solved_alone
@@ -171,6 +163,7 @@ fn ask<'a>(
 }
 
 // The answers to a list of at most 64 questions, with room for a stretch of each: question i gets the stretches from i * edges and from i * words on.
+// It refuses nothing, and answers a Result as `answer_list` does, so that no frame holds a second page.
 fn answer_all<'a>(
     tails: &'a [u16; 1024],
     rotations: &'a [u16; 1024],
@@ -184,7 +177,7 @@ fn answer_all<'a>(
     list: Listed,
     flows: &mut [i32],
     sets: &mut [u64],
-) -> Page
+) -> Result<Page, Refusal>
     requires { OpenDrawing sizes tails.now rotations.now lefts.now capacities.now order.now from.now grouped.now starts.now
         × ListLent sizes list.count flows.old sets.old }
     ensures { Paged (list_checks sizes.nodes sizes.edges list.count flows.old sets.old)
@@ -196,18 +189,14 @@ fn answer_all<'a>(
     let count = list.count;
     let edges = sizes.edges;
     let words = node_sets::words_for(sizes.nodes);
-    let none = Answered {
-        answer: SolveAnswer::Refused(0, 0),
-    };
+    let none: Result<Solution, Refusal> = refused(0);
     let mut answers = [none; 64];
-    let mut i: usize = 0;
-    while i < count {
+    for i in 0..count {
         let start = i * edges;
         let end = start + edges;
         let word = i * words;
         let past = word + words;
-        let q = list.questions[i];
-        let answer = ask(
+        answers[i] = ask(
             tails,
             rotations,
             lefts,
@@ -217,32 +206,12 @@ fn answer_all<'a>(
             grouped,
             starts,
             sizes,
-            q,
+            list.questions[i],
             &mut flows[start..end],
             &mut sets[word..past],
         );
-        answers[i] = Answered { answer: answer };
-        i += 1;
     }
-    Page {
-        verdict: Verdict::Passed,
-        count: count,
-        answers: answers,
-    }
-}
-
-// A page that is refused.
-pub fn refused_page(number: u8, place: u16) -> Page
-    ensures { result ≡ refused_page number place }
-{
-    let none = Answered {
-        answer: SolveAnswer::Refused(0, 0),
-    };
-    Page {
-        verdict: Verdict::Refused(number, place),
-        count: 0,
-        answers: [none; 64],
-    }
+    Ok(Page { count, answers })
 }
 
 // A list of questions on one drawing: 21 and 16, then the answers, each with its stretches.
@@ -259,7 +228,7 @@ pub fn answer_list<'a>(
     list: Listed,
     flows: &mut [i32],
     sets: &mut [u64],
-) -> Page
+) -> Result<Page, Refusal>
     requires { OpenDrawing sizes tails.now rotations.now lefts.now capacities.now order.now from.now grouped.now starts.now }
     ensures { Paged (list_checks sizes.nodes sizes.edges list.count flows.old sets.old)
         sizes.edges (words_for sizes.nodes) list.count
@@ -267,10 +236,7 @@ pub fn answer_list<'a>(
         (question_at list.questions i))
         flows.old flows.new sets.old sets.new result }
 {
-    let verdict = check_list(sizes.nodes, sizes.edges, list.count, &*flows, &*sets);
-    if let Verdict::Refused(k, p) = verdict {
-        return refused_page(k, p);
-    }
+    check_list(sizes.nodes, sizes.edges, list.count, &*flows, &*sets)?;
     answer_all(
         tails, rotations, lefts, capacities, order, from, grouped, starts, sizes, list, flows, sets,
     )

@@ -9,9 +9,11 @@ use native.Mathlib.Decide.{ℕ_discrete}
 use lib.Dec.{eqb}
 use lib.IntN.{ℤ, pos, negsuc, ◌+ℤ◌, ◌-ℤ◌, +ℤ_idr}
 use lib.Signed.{◌≤ℤ◌}
+use Rattle.std.specs.Prelude.{Result, Ok, Err}
 use Rattle.integers.proofs.Omega.{atoms₁, atoms₂, atoms₃, atoms₄, atoms₅, parts, equal, at_most, from_equal, from_at_most}
 use Rattle.integers.proofs.Tests.{eqb_true, eqb_false}
 use Rattle.refusals.specs.Order.{NoneOf}
+use Rattle.refusals.specs.declared.Refusal.{Refusal}
 use Rattle.maps.specs.Dart.{rev}
 use Rattle.maps.specs.Map.{Map}
 use Rattle.maps.proofs.Darts.{rev_in, rev_even}
@@ -25,8 +27,8 @@ use Rattle.records.proofs.Bytes.{bytes_range, bytes_pairs}
 use Rattle.sheets.specs.Open.{sheet_checks}
 use Rattle.sheets.proofs.Accepted.{sheet_bytes, sheet-map, sheet_counts, sheet_outer}
 use Rattle.sheets.proofs.Opening.{maps_are}
-use Rattle.questions.specs.declared.SolveAnswer.{SolveAnswer}
-use Rattle.questions.specs.declared.SolveAnswer.TheVariants.{Can, Cannot, Refused}
+use Rattle.questions.specs.declared.Solution.{Solution}
+use Rattle.questions.specs.declared.Solution.TheVariants.{Can, Cannot}
 use Rattle.analyser.proofs.SheetPlane.{capacity_small}
 use Rattle.sessions.specs.Fit.{PairFits, Fit, Lowerable}
 use Rattle.parties.specs.Shared.{idle, offered, stale, committed, Shared, shared_drawing, put, staled, flows_of, lowered_by, let_in, cleared}
@@ -111,7 +113,7 @@ put_kept {s} {S} p a xs own k = record {
 
 -- "can": the offer is the settings given, which keep within the limits left
 can_within : (s : List ℕ) (S : Shared) (p source sink : ℕ) (value : ℤ) (flows flows' : List ℤ) (set set' : List ℕ) (S' : Shared)
-    → Asks S p source sink value flows flows' set set' S' Can → (shared_drawing S).map ≡ sheet_map s
+    → Asks S p source sink value flows flows' set set' S' (Ok Can) → (shared_drawing S).map ≡ sheet_map s
     → Within (sheet_map s) (atℤ S.left) (atℤ (filled S.edges (atℤ flows') (S.offer p)))
 can_within s S p source sink value flows flows' set set' S' a m =
     subst (λ 𝓜. Within 𝓜 (atℤ S.left) (atℤ kept)) m
@@ -129,13 +131,13 @@ can_within s S p source sink value flows flows' set set' S' a m =
         ∙ sym (filled_front (pos 0) S.edges (atℤ flows') (S.offer p) kept refl e l)
 
 pub ask_kept : {s : List ℕ} {S : Shared} {fs : List (List ℤ)} (p source sink : ℕ) (value : ℤ) (flows flows' : List ℤ) (set set' : List ℕ) (S' : Shared)
-    (answer : SolveAnswer) → Asks S p source sink value flows flows' set set' S' answer → Kept s S fs → Kept s S' fs
-ask_kept {s} {S} {fs} p source sink value flows flows' set set' S' Can a k =
+    (answer : Result Solution Refusal) → Asks S p source sink value flows flows' set set' S' answer → Kept s S fs → Kept s S' fs
+ask_kept {s} {S} {fs} p source sink value flows flows' set set' S' (Ok Can) a k =
     subst (λ T. Kept s T fs) (sym a.after)
     (put_kept p offered _ (λ e. can_within s S p source sink value flows flows' set set' S' a k.map_is) k)
-ask_kept {s} {S} {fs} p source sink value flows flows' set set' S' (Cannot n) a k =
+ask_kept {s} {S} {fs} p source sink value flows flows' set set' S' (Ok (Cannot n)) a k =
     subst (λ T. Kept s T fs) (sym a.after) (put_kept p idle _ (λ e. absurd (omega (arith, e))) k)
-ask_kept {s} {S} {fs} p source sink value flows flows' set set' S' (Refused j q) a k = subst (λ T. Kept s T fs) (sym a.after) k
+ask_kept {s} {S} {fs} p source sink value flows flows' set set' S' (Err r) a k = subst (λ T. Kept s T fs) (sym a.after) k
 
 -- ── a commit ──
 -- what is left of a dart's limit after flows are let in

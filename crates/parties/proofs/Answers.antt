@@ -7,16 +7,17 @@ use mathlib.Core.List.{List, ◌∷◌}
 use native.Mathlib.Omega.{arith}
 use lib.Dec.{eqb}
 use lib.IntN.{ℤ}
+use Rattle.std.specs.Prelude.{Result, Ok, Err}
 use Rattle.refusals.specs.Order.{Check, ◌when◌, NoneOf, FirstOf, Judged}
-use Rattle.refusals.specs.declared.Verdict.{Verdict}
-use Rattle.refusals.specs.declared.Verdict.TheVariants as verdict
 use Rattle.refusals.proofs.Order.{first_none, first_one, judged_one}
 use Rattle.refusals.proofs.Same.{Same}
+use Rattle.refusals.specs.declared.Refusal.{Refusal}
+use Rattle.refusals.specs.Refused.{refused}
 use Rattle.maps.specs.Drawing.{Drawing}
 use Rattle.questions.specs.Question.{value_checks, room_checks}
 use Rattle.questions.specs.Solve.{question_checks, Solved}
-use Rattle.questions.specs.declared.SolveAnswer.{SolveAnswer}
-use Rattle.questions.specs.declared.SolveAnswer.TheVariants.{Can, Cannot, Refused}
+use Rattle.questions.specs.declared.Solution.{Solution}
+use Rattle.questions.specs.declared.Solution.TheVariants.{Can, Cannot}
 use Rattle.arrays.specs.At.{atℤ}
 use Rattle.sessions.specs.Fit.{Fit, Lowerable}
 use Rattle.sessions.specs.Ask as ask
@@ -31,12 +32,12 @@ module _ (S : Shared) (p source sink : ℕ) (value : ℤ) (flows : List ℤ) (se
   checks = ask_checks (shared_drawing S) (S.standing p) p source sink value flows set
 
   -- the first refusal is the answer
-  pub told : (flows' : List ℤ) (set' : List ℕ) (S' : Shared) (answer : SolveAnswer) (k q : ℕ)
+  pub told : (flows' : List ℤ) (set' : List ℕ) (S' : Shared) (answer : Result Solution Refusal) (k q : ℕ)
       → FirstOf (ask_checks (shared_drawing S) (S.standing p) p source sink value flows set) k q
-      → Asks S p source sink value flows flows' set set' S' answer → answer ≡ Refused k q
-  told flows' set' S' Can k q first a = absurd (first_none _ k q first a.solved.0)
-  told flows' set' S' (Cannot n) k q first a = absurd (first_none _ k q first a.solved.0)
-  told flows' set' S' (Refused j o) k q first a = let e = first_one _ j o k q a.solved.0 first in ap₂ Refused e.0 e.1
+      → Asks S p source sink value flows flows' set set' S' answer → answer ≡ refused k q
+  told flows' set' S' (Ok Can) k q first a = absurd (first_none _ k q first a.solved.0)
+  told flows' set' S' (Ok (Cannot n)) k q first a = absurd (first_none _ k q first a.solved.0)
+  told flows' set' S' (Err r) k q first a = let e = first_one _ r.number r.place k q a.solved.0 first in ap₂ refused e.0 e.1
 
   pub ask_no_party : 2 ≤ p → FirstOf (ask_checks (shared_drawing S) (S.standing p) p source sink value flows set) 29 0
   unfolding FirstOf ask_checks
@@ -67,8 +68,8 @@ module _ (S : Shared) (p source sink : ℕ) (value : ℤ) (flows : List ℤ) (se
   first_29 q (inr (a, inr (b, inr (c, inr (d, inr (e, inl h)))))) = absurd (omega (arith, h.1))
   first_29 q (inr (a, inr (b, inr (c, inr (d, inr (e, inr h)))))) = absurd h.1
 
-  pub ask_29 : (flows' : List ℤ) (set' : List ℕ) (S' : Shared) (answer : SolveAnswer) → Asks S p source sink value flows flows' set set' S' answer
-      → (answer ≡ Refused 29 0) ↔ (2 ≤ p)
+  pub ask_29 : (flows' : List ℤ) (set' : List ℕ) (S' : Shared) (answer : Result Solution Refusal) → Asks S p source sink value flows flows' set set' S' answer
+      → (answer ≡ refused 29 0) ↔ (2 ≤ p)
   ask_29 flows' set' S' answer a = (
     (λ e. first_29 0 (subst (Asks S p source sink value flows flows' set set' S') e a).solved.0),
     (λ h. told flows' set' S' answer 29 0 (ask_no_party h) a),
@@ -98,19 +99,19 @@ module _ (standing p : ℕ) (cs : List Check) where
     first_behind k q (inr (a, inl h)) = absurd (may h.0)
     first_behind k q (inr (a, inr (b, h))) = h
 
-    pub solved_behind : (𝓓 : Drawing) (source sink : ℕ) (value : ℤ) (flows flows' : List ℤ) (set set' : List ℕ) (r : SolveAnswer)
+    pub solved_behind : (𝓓 : Drawing) (source sink : ℕ) (value : ℤ) (flows flows' : List ℤ) (set set' : List ℕ) (r : Result Solution Refusal)
         → Solved 𝓓 ((29 when 2 ≤ p) ∷ (30 when standing ≡ committed) ∷ cs) source sink value flows flows' set set' r
         → Solved 𝓓 cs source sink value flows flows' set set' r
-    solved_behind 𝓓 source sink value flows flows' set set' Can h = (behind h.0, h.1, h.2)
-    solved_behind 𝓓 source sink value flows flows' set set' (Cannot n) h = (behind h.0, h.1, h.2)
-    solved_behind 𝓓 source sink value flows flows' set set' (Refused k q) h = (first_behind k q h.0, h.1, h.2)
+    solved_behind 𝓓 source sink value flows flows' set set' (Ok Can) h = (behind h.0, h.1, h.2)
+    solved_behind 𝓓 source sink value flows flows' set set' (Ok (Cannot n)) h = (behind h.0, h.1, h.2)
+    solved_behind 𝓓 source sink value flows flows' set set' (Err r) h = (first_behind r.number r.place h.0, h.1, h.2)
 
 -- ── Commit ──
-pub judged : (S : Shared) (p : ℕ) (S' : Shared) (v : Verdict) → Commits S p S' v → Judged (commit_checks S p) v
-judged S p S' verdict.Passed c = c.0
-judged S p S' (verdict.Refused k q) c = c.0
+pub judged : (S : Shared) (p : ℕ) (S' : Shared) (v : Result Unit Refusal) → Commits S p S' v → Judged (commit_checks S p) v
+judged S p S' (Ok done) c = c.0
+judged S p S' (Err r) c = c.0
 
-pub verdict_is : (S : Shared) (p : ℕ) (S' : Shared) (v w : Verdict) → Judged (commit_checks S p) w → Commits S p S' v → v ≡ w
+pub verdict_is : (S : Shared) (p : ℕ) (S' : Shared) (v w : Result Unit Refusal) → Judged (commit_checks S p) w → Commits S p S' v → v ≡ w
 verdict_is S p S' v w h c = judged_one (commit_checks S p) v w (judged S p S' v c) h
 
 first_commit_29 : (S : Shared) (p q : ℕ) → FirstOf (commit_checks S p) 29 q → 2 ≤ p
@@ -121,22 +122,22 @@ first_commit_29 S p q (inr (a, inr (b, inl h))) = absurd (omega (arith, h.1))
 first_commit_29 S p q (inr (a, inr (b, inr (c, inl h)))) = absurd (omega (arith, h.1))
 first_commit_29 S p q (inr (a, inr (b, inr (c, inr h)))) = absurd h.1
 
-pub commit_29 : (S : Shared) (p : ℕ) (S' : Shared) (v : Verdict) → Commits S p S' v → (v ≡ verdict.Refused 29 0) ↔ (2 ≤ p)
+pub commit_29 : (S : Shared) (p : ℕ) (S' : Shared) (v : Result Unit Refusal) → Commits S p S' v → (v ≡ refused 29 0) ↔ (2 ≤ p)
 commit_29 S p S' v c = (
   (λ e. first_commit_29 S p 0 (subst (Commits S p S') e c).0),
-  (λ h. verdict_is S p S' v (verdict.Refused 29 0) (no_party S p h) c),
+  (λ h. verdict_is S p S' v (refused 29 0) (no_party S p h) c),
 )
 
 -- what is said to a party that stands there
-abbrev spoken : ℕ → Verdict
-spoken zero = verdict.Refused 28 0
-spoken (suc zero) = verdict.Passed
-spoken (suc (suc zero)) = verdict.Refused 31 0
-spoken (suc (suc (suc a))) = verdict.Refused 30 0
+abbrev spoken : ℕ → Result Unit Refusal
+spoken zero = refused 28 0
+spoken (suc zero) = Ok tt
+spoken (suc (suc zero)) = refused 31 0
+spoken (suc (suc (suc a))) = refused 30 0
 
-place : Verdict → ℕ
-place verdict.Passed = offered
-place (verdict.Refused k q) = cond (eqb k 28) idle (cond (eqb k 31) stale committed)
+place : Result Unit Refusal → ℕ
+place (Ok done) = offered
+place (Err r) = cond (eqb r.number 28) idle (cond (eqb r.number 31) stale committed)
 
 place_spoken : (a : ℕ) → a ≤ committed → place (spoken a) ≡ a
 unfolding place
@@ -160,7 +161,7 @@ module _ (S : Shared) (p : ℕ) (known : p < 2) (fits : S.standing p ≡ offered
   expected (suc (suc (suc zero))) l e = has_committed S p there_is e
   expected (suc (suc (suc (suc a)))) l e = absurd (omega (arith, l))
 
-  pub exactly : (S' : Shared) (v : Verdict) → Commits S p S' v → (a : ℕ) → a ≤ committed → (v ≡ spoken a) ↔ (S.standing p ≡ a)
+  pub exactly : (S' : Shared) (v : Result Unit Refusal) → Commits S p S' v → (a : ℕ) → a ≤ committed → (v ≡ spoken a) ↔ (S.standing p ≡ a)
   exactly S' v c a l = (
     (λ e. sym (place_spoken (S.standing p) stood) ∙ ap place (sym said ∙ e) ∙ place_spoken a l),
     (λ e. verdict_is S p S' v (spoken a) (expected a l e) c),

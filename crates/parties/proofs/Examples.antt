@@ -2,7 +2,8 @@
 use mathlib.Core.Path.{◌≡◌, refl}
 use mathlib.Core.List.{List, [], ◌∷◌}
 use lib.IntN.{ℤ, pos, negsuc}
-use Rattle.refusals.specs.declared.Verdict.TheVariants.{Passed, Refused}
+use Rattle.std.specs.Prelude.{Ok}
+use Rattle.refusals.specs.Refused.{refused}
 use Rattle.flows.specs.Settings.{on_darts}
 use Rattle.parties.specs.Seen.{commits, clears}
 use Rattle.parties.specs.Reached.{total, booked, since}
@@ -14,15 +15,15 @@ one = pos 3 ∷ negsuc 0 ∷ []
 abbrev two : List ℤ
 two = pos 4 ∷ pos 2 ∷ []
 
-pub both_count : since [] (commits 0 one Passed ∷ commits 1 two Passed ∷ []) ≡ two ∷ one ∷ []
+pub both_count : since [] (commits 0 one (Ok tt) ∷ commits 1 two (Ok tt) ∷ []) ≡ two ∷ one ∷ []
 unfolding since booked
 both_count = refl
 
-pub refused_does_not : since [] (commits 0 one Passed ∷ commits 0 one (Refused 30 0) ∷ []) ≡ one ∷ []
+pub refused_does_not : since [] (commits 0 one (Ok tt) ∷ commits 0 one (refused 30 0) ∷ []) ≡ one ∷ []
 unfolding since booked
 refused_does_not = refl
 
-pub begun_anew : since [] (commits 0 one Passed ∷ clears ∷ commits 1 two Passed ∷ []) ≡ two ∷ []
+pub begun_anew : since [] (commits 0 one (Ok tt) ∷ clears ∷ commits 1 two (Ok tt) ∷ []) ≡ two ∷ []
 unfolding since booked
 begun_anew = refl
 

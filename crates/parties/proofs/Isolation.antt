@@ -7,11 +7,11 @@ use mathlib.Core.Bool.{cond}
 use mathlib.Core.List.{List, [], ◌∷◌, ◌++◌}
 use native.Mathlib.Decide.{ℕ_discrete}
 use lib.IntN.{ℤ}
+use Rattle.std.specs.Prelude.{Result, Ok, Err}
 use Rattle.integers.proofs.Tests.{eqb_true, eqb_false}
-use Rattle.refusals.specs.declared.Verdict.{Verdict}
-use Rattle.refusals.specs.declared.Verdict.TheVariants as verdict
-use Rattle.questions.specs.declared.SolveAnswer.{SolveAnswer}
-use Rattle.questions.specs.declared.SolveAnswer.TheVariants.{Can, Cannot, Refused}
+use Rattle.refusals.specs.declared.Refusal.{Refusal}
+use Rattle.questions.specs.declared.Solution.{Solution}
+use Rattle.questions.specs.declared.Solution.TheVariants.{Can, Cannot}
 use Rattle.parties.specs.Shared.{idle, committed, staled, Shared, put, lowered_by, flows_of, let_in}
 use Rattle.parties.specs.Start.{Starts}
 use Rattle.parties.specs.Calls.{after_ask, Asks, Commits}
@@ -47,10 +47,10 @@ use Rattle.parties.proofs.Views.{View, view, turned, other, ask_one, commit_one}
 
 -- ── a run as q sees it ──
 data Next (q : ℕ) : View → Seen → List Gift → View → Type 0 where
-  by_ask : {v w : View} (k : Question) (S T : Shared) (flows' : List ℤ) (set' : List ℕ) (r : SolveAnswer)
+  by_ask : {v w : View} (k : Question) (S T : Shared) (flows' : List ℤ) (set' : List ℕ) (r : Result Solution Refusal)
       → Asks S q k.source k.sink k.value k.flows flows' k.set set' T r → view q S ≡ v → view q T ≡ w
       → Next q v (own_ask k) (answered flows' set' r ∷ []) w
-  by_commit : {v w : View} (S T : Shared) (a : Verdict) → Commits S q T a → view q S ≡ v → view q T ≡ w → Next q v own_commit (judged a ∷ []) w
+  by_commit : {v w : View} (S T : Shared) (a : Result Unit Refusal) → Commits S q T a → view q S ≡ v → view q T ≡ w → Next q v own_commit (judged a ∷ []) w
   by_theirs : {v : View} (xs : List ℤ) → Next q v (theirs xs) [] (turned v (lowered_by v.edges v.left xs) (staled v.mine) v.offer)
   by_wiped : {v : View} → Next q v wiped [] (turned v v.limits idle v.offer)
 
@@ -81,12 +81,12 @@ Does q S e T =
 beside : (q p : ℕ) (S : Shared) (a : ℕ) (xs : List ℤ) → p ≢ q → view q (put S p a xs) ≡ view q S
 beside q p S a xs h = ap₂ (turned (view q S) S.left) (other q p a (S.standing q) h) (other q p xs (S.offer q) h)
 
-asks_beside : (q p : ℕ) (S : Shared) (flows' : List ℤ) (r : SolveAnswer) → p ≢ q → view q (after_ask S p flows' r) ≡ view q S
-asks_beside q p S flows' Can h = beside q p S _ _ h
-asks_beside q p S flows' (Cannot n) h = beside q p S _ _ h
-asks_beside q p S flows' (Refused k o) h = refl
+asks_beside : (q p : ℕ) (S : Shared) (flows' : List ℤ) (r : Result Solution Refusal) → p ≢ q → view q (after_ask S p flows' r) ≡ view q S
+asks_beside q p S flows' (Ok Can) h = beside q p S _ _ h
+asks_beside q p S flows' (Ok (Cannot n)) h = beside q p S _ _ h
+asks_beside q p S flows' (Err r) h = refl
 
-ask_does : (q p : ℕ) (k : Question) (flows' : List ℤ) (set' : List ℕ) (r : SolveAnswer) (S T : Shared)
+ask_does : (q p : ℕ) (k : Question) (flows' : List ℤ) (set' : List ℕ) (r : Result Solution Refusal) (S T : Shared)
     → Asks S p k.source k.sink k.value k.flows flows' k.set set' T r → Dec (p ≡ q) → Does q S (asks p k flows' set' r) T
 unfolding Does seen gift
 ask_does q p k flows' set' r S T a (yes e) =
@@ -104,7 +104,7 @@ ask_does q p k flows' set' r S T a (no e) =
       ap (view q) a.after ∙ asks_beside q p S flows' r e,
     )
 
-commit_own : (q p : ℕ) (v : Verdict) (S T : Shared) → Commits S p T v → p ≡ q → Does q S (commits p (flows_of S p) v) T
+commit_own : (q p : ℕ) (v : Result Unit Refusal) (S T : Shared) → Commits S p T v → p ≡ q → Does q S (commits p (flows_of S p) v) T
 unfolding Does seen gift
 commit_own q p v S T c e =
     inr (
@@ -120,21 +120,21 @@ let_in_beside : (q p : ℕ) (S : Shared) → p ≢ q
 let_in_beside q p S h =
     ap (λ a. turned (view q S) (lowered_by S.edges S.left (flows_of S p)) a (S.offer q)) (other q p committed (staled (S.standing q)) h)
 
-commit_does : (q p : ℕ) (v : Verdict) (S T : Shared) → Commits S p T v → Dec (p ≡ q) → Does q S (commits p (flows_of S p) v) T
+commit_does : (q p : ℕ) (v : Result Unit Refusal) (S T : Shared) → Commits S p T v → Dec (p ≡ q) → Does q S (commits p (flows_of S p) v) T
 unfolding Does seen gift accepted
 commit_does q p v S T c (yes e) = commit_own q p v S T c e
-commit_does q p verdict.Passed S T c (no e) =
+commit_does q p (Ok done) S T c (no e) =
     inr (
       theirs (flows_of S p),
       [],
       ap (λ t. cond t (own_commit ∷ []) (theirs (flows_of S p) ∷ [])) (eqb_false p q e),
-      ap (λ t. cond t (judged verdict.Passed ∷ []) []) (eqb_false p q e),
+      ap (λ t. cond t (judged (Ok done) ∷ []) []) (eqb_false p q e),
       subst (Next q (view q S) (theirs (flows_of S p)) []) (sym (ap (view q) c.1 ∙ let_in_beside q p S e)) (by_theirs (flows_of S p)),
     )
-commit_does q p (verdict.Refused k o) S T c (no e) =
+commit_does q p (Err r) S T c (no e) =
     inl (
       ap (λ t. cond t (own_commit ∷ []) []) (eqb_false p q e),
-      ap (λ t. cond t (judged (verdict.Refused k o) ∷ []) []) (eqb_false p q e),
+      ap (λ t. cond t (judged (Err r) ∷ []) []) (eqb_false p q e),
       ap (view q) c.1,
     )
 
@@ -163,7 +163,7 @@ isolated_from : (q : ℕ) (S U W : Shared) (es fs : List Event) → Run S es U �
 isolated_from q S U W es fs r s e = views_one q (run_views q r) (subst (λ zs. Views q (view q S) zs (gifts q fs)) (sym e) (run_views q s))
 
 -- And so do two from starts of one sheet, which leave one session.
-isolated : (s : List ℕ) (q : ℕ) (S T U W : Shared) (v w : Verdict) (es fs : List Event) → Starts s S v → Starts s T w → Run S es U → Run T fs W
+isolated : (s : List ℕ) (q : ℕ) (S T U W : Shared) (v w : Result Unit Refusal) (es fs : List Event) → Starts s S v → Starts s T w → Run S es U → Run T fs W
     → all_seen q es ≡ all_seen q fs → gifts q es ≡ gifts q fs
 isolated s q S T U W v w es fs a b r t = isolated_from q T U W es fs (subst (λ X. Run X es U) (one_start s S T v w a b).0 r) t
 

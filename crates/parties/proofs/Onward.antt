@@ -6,10 +6,11 @@ use mathlib.Core.List.{List, [], ◌∷◌, ◌++◌}
 use native.Mathlib.Omega.{arith}
 use native.Mathlib.Decide.{ℕ_discrete}
 use lib.IntN.{ℤ}
+use Rattle.std.specs.Prelude.{Result, Ok, Err}
 use Rattle.refusals.specs.Order.{NoneOf}
-use Rattle.refusals.specs.declared.Verdict.TheVariants as verdict
-use Rattle.questions.specs.declared.SolveAnswer.{SolveAnswer}
-use Rattle.questions.specs.declared.SolveAnswer.TheVariants.{Can, Cannot, Refused}
+use Rattle.refusals.specs.declared.Refusal.{Refusal}
+use Rattle.questions.specs.declared.Solution.{Solution}
+use Rattle.questions.specs.declared.Solution.TheVariants.{Can, Cannot}
 use Rattle.sessions.specs.Ask as ask
 use Rattle.parties.specs.Shared.{idle, offered, committed, Shared, shared_drawing, flows_of, cleared}
 use Rattle.parties.specs.Start.{started}
@@ -41,15 +42,16 @@ module _ (S : Shared) (p source sink : ℕ) (value : ℤ) (flows : List ℤ) (se
   asked_node e = asked.1.1.0 (inl (omega (arith, e)))
 
 -- ── from an accepted start ──
-ask_stands : {S : Shared} {fs : List (List ℤ)} (p source sink : ℕ) (value : ℤ) (flows flows' : List ℤ) (set set' : List ℕ) (S' : Shared) (answer : SolveAnswer)
+ask_stands : {S : Shared} {fs : List (List ℤ)} (p source sink : ℕ) (value : ℤ) (flows flows' : List ℤ) (set set' : List ℕ) (S' : Shared)
+    (answer : Result Solution Refusal)
     → Asks S p source sink value flows flows' set set' S' answer → Standings S fs → Standings S' fs
-ask_stands {S} {fs} p source sink value flows flows' set set' S' Can a k =
+ask_stands {S} {fs} p source sink value flows flows' set set' S' (Ok Can) a k =
     subst (λ T. Standings T fs) (sym a.after)
     (put_stands S p offered _ (omega arith) (λ e. absurd (omega (arith, e))) (asked_may S p source sink value flows set a.solved.0) k)
-ask_stands {S} {fs} p source sink value flows flows' set set' S' (Cannot n) a k =
+ask_stands {S} {fs} p source sink value flows flows' set set' S' (Ok (Cannot n)) a k =
     subst (λ T. Standings T fs) (sym a.after)
     (put_stands S p idle _ (omega arith) (λ e. absurd (omega (arith, e))) (asked_may S p source sink value flows set a.solved.0) k)
-ask_stands {S} {fs} p source sink value flows flows' set set' S' (Refused j q) a k = subst (λ T. Standings T fs) (sym a.after) k
+ask_stands {S} {fs} p source sink value flows flows' set set' S' (Err r) a k = subst (λ T. Standings T fs) (sym a.after) k
 
 pub record Invariant (s : List ℕ) (S : Shared) (fs : List (List ℤ)) : Type 0 where
   pub kept : Kept s S fs
@@ -61,13 +63,13 @@ step_kept {T = T} (ask_step p k flows' set' r a) h = record {
   kept = ask_kept p k.source k.sink k.value k.flows flows' k.set set' T r a h.kept;
   stands = ask_stands p k.source k.sink k.value k.flows flows' k.set set' T r a h.stands;
 }
-step_kept {s} {S} {fs = fs} (commit_step p verdict.Passed c) h =
+step_kept {s} {S} {fs = fs} (commit_step p (Ok done) c) h =
     let o = committed_offer S p c.0 in
     subst (λ T. Invariant s T (flows_of S p ∷ fs)) (sym c.1) (record {
       kept = commit_kept p o.1 h.kept;
       stands = let_in_stands S p o.0 (λ e. absurd (omega (arith, o.1, e))) (flows_of S p) h.stands;
     })
-step_kept {s} {fs = fs} (commit_step p (verdict.Refused j q) c) h = subst (λ T. Invariant s T fs) (sym c.1) h
+step_kept {s} {fs = fs} (commit_step p (Err r) c) h = subst (λ T. Invariant s T fs) (sym c.1) h
 step_kept {S = S} clear_step h = record { kept = clear_kept h.kept; stands = idle_stands (cleared S) (λ q. refl) }
 
 run_kept : {s : List ℕ} {S U : Shared} {fs : List (List ℤ)} {es : List Event} → Run S es U → Invariant s S fs → Invariant s U (since fs es)
@@ -107,17 +109,18 @@ pub record Bare (S : Shared) (fs : List (List ℤ)) : Type 0 where
   pub no_offer : (q : ℕ) → S.standing q ≡ idle
   pub no-flows : fs ≡ []
 
-ask_bare : {S : Shared} {fs : List (List ℤ)} (p source sink : ℕ) (value : ℤ) (flows flows' : List ℤ) (set set' : List ℕ) (S' : Shared) (answer : SolveAnswer)
+ask_bare : {S : Shared} {fs : List (List ℤ)} (p source sink : ℕ) (value : ℤ) (flows flows' : List ℤ) (set set' : List ℕ) (S' : Shared)
+    (answer : Result Solution Refusal)
     → Asks S p source sink value flows flows' set set' S' answer → Bare S fs → Bare S' fs
-ask_bare {S} p source sink value flows flows' set set' S' Can a b = absurd (asked_node S p source sink value flows set a.solved.0 b.no_nodes)
-ask_bare {S} p source sink value flows flows' set set' S' (Cannot n) a b = absurd (asked_node S p source sink value flows set a.solved.0 b.no_nodes)
-ask_bare {S} {fs} p source sink value flows flows' set set' S' (Refused k q) a b = subst (λ T. Bare T fs) (sym a.after) b
+ask_bare {S} p source sink value flows flows' set set' S' (Ok Can) a b = absurd (asked_node S p source sink value flows set a.solved.0 b.no_nodes)
+ask_bare {S} p source sink value flows flows' set set' S' (Ok (Cannot n)) a b = absurd (asked_node S p source sink value flows set a.solved.0 b.no_nodes)
+ask_bare {S} {fs} p source sink value flows flows' set set' S' (Err r) a b = subst (λ T. Bare T fs) (sym a.after) b
 
 step_bare : {S T : Shared} {fs : List (List ℤ)} {e : Event} → Step S e T → Bare S fs → Bare T (booked fs e)
 unfolding booked
 step_bare {T = T} (ask_step p k flows' set' r a) b = ask_bare p k.source k.sink k.value k.flows flows' k.set set' T r a b
-step_bare {S} (commit_step p verdict.Passed c) b = absurd (omega (arith, b.no_offer p, (committed_offer S p c.0).1))
-step_bare {fs = fs} (commit_step p (verdict.Refused j q) c) b = subst (λ T. Bare T fs) (sym c.1) b
+step_bare {S} (commit_step p (Ok done) c) b = absurd (omega (arith, b.no_offer p, (committed_offer S p c.0).1))
+step_bare {fs = fs} (commit_step p (Err r) c) b = subst (λ T. Bare T fs) (sym c.1) b
 step_bare clear_step b = record { no_nodes = b.no_nodes; no_edges = b.no_edges; no_offer = λ q. refl; no-flows = refl }
 
 run_bare : {S U : Shared} {fs : List (List ℤ)} {es : List Event} → Run S es U → Bare S fs → Bare U (since fs es)

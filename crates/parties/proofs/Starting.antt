@@ -6,10 +6,10 @@ use native.Mathlib.Omega.{arith}
 use native.Mathlib.Decide.{dec_lt}
 use lib.IntN.{pos}
 use lib.ListN.{length, get_or, replicate, length-replicate}
+use Rattle.std.specs.Prelude.{Result, Ok, Err}
 use Rattle.refusals.specs.Order.{NoneOf}
-use Rattle.refusals.specs.declared.Verdict.{Verdict}
-use Rattle.refusals.specs.declared.Verdict.TheVariants.{Passed, Refused}
 use Rattle.refusals.proofs.Order.{first_none, judged_one}
+use Rattle.refusals.specs.declared.Refusal.{Refusal}
 use Rattle.arrays.specs.At.{at, atℤ}
 use Rattle.arrays.specs.Filled.{tabulate}
 use Rattle.arrays.proofs.Tabulate.{length_tabulate, get_d_tabulate, get_d_past, tabulate_get_d, tabulate_ext}
@@ -74,10 +74,6 @@ after_erase = λ i. record {
   offer = offers_of (written_whole (pos 0) 512 i) (written_whole (pos 0) 512 i);
 }
 
--- an array that was copied from one that holds the values of a function
-pub array_copied : {A : Type 0} (n : ℕ) (to : List A) (x f : ℕ → A) {k : ℕ} → to ≡ tabulate k x → k ≡ n → x ≡ f → to ≡ tabulate n f
-array_copied n to x f e long same = e ∙ ap (λ k. tabulate k x) long ∙ ap (tabulate n) same
-
 -- all zeros, and then what the sheet says
 pub after_start : (s : List ℕ) (E S : Shared) → E ≡ emptied → S.nodes ≡ nodes_of s → S.edges ≡ edges_of s → S.outer ≡ outer_of s
     → S.tails ≡ tabulate 1024 (tail_of s) → S.rotations ≡ tabulate 1024 (rotation_of s) → S.limits ≡ tabulate 1024 (capacity_of s)
@@ -95,8 +91,8 @@ after_start s E S erased n e o t r c l st off = λ i. record {
 }
 
 -- ── a sheet decides the session that a start leaves, and the verdict ──
-pub one_start : (s : List ℕ) (S T : Shared) (v w : Verdict) → Starts s S v → Starts s T w → (S ≡ T) × (v ≡ w)
-one_start s S T Passed Passed a b = (a.1 ∙ sym b.1, refl)
-one_start s S T Passed (Refused k p) a b = absurd (first_none (sheet_checks s) k p b.0 a.0)
-one_start s S T (Refused k p) Passed a b = absurd (first_none (sheet_checks s) k p a.0 b.0)
-one_start s S T (Refused k p) (Refused j q) a b = (a.1 ∙ sym b.1, judged_one (sheet_checks s) (Refused k p) (Refused j q) a.0 b.0)
+pub one_start : (s : List ℕ) (S T : Shared) (v w : Result Unit Refusal) → Starts s S v → Starts s T w → (S ≡ T) × (v ≡ w)
+one_start s S T (Ok done) (Ok again) a b = (a.1 ∙ sym b.1, refl)
+one_start s S T (Ok done) (Err r) a b = absurd (first_none (sheet_checks s) r.number r.place b.0 a.0)
+one_start s S T (Err r) (Ok done) a b = absurd (first_none (sheet_checks s) r.number r.place a.0 b.0)
+one_start s S T (Err r) (Err q) a b = (a.1 ∙ sym b.1, judged_one (sheet_checks s) (Err r) (Err q) a.0 b.0)

@@ -8,11 +8,12 @@ use native.Mathlib.Omega.{arith}
 use native.Mathlib.Decide.{ℕ_discrete}
 use lib.Dec.{eqb}
 use lib.IntN.{ℤ, pos, ◌+ℤ◌, ◌-ℤ◌}
+use Rattle.std.specs.Prelude.{Result, Ok, Err}
 use Rattle.integers.proofs.Omega.{atoms₂, parts, equal}
 use Rattle.refusals.specs.Order.{◌when◌, NoneOf}
-use Rattle.refusals.specs.declared.Verdict.{Verdict}
-use Rattle.refusals.specs.declared.Verdict.TheVariants as verdict
 use Rattle.refusals.proofs.Order.{first_none}
+use Rattle.refusals.specs.declared.Refusal.{Refusal}
+use Rattle.refusals.specs.Refused.{refused}
 use Rattle.maps.specs.Dart.{rev}
 use Rattle.maps.proofs.Darts.{rev_in}
 use Rattle.flows.specs.Settings.{on_darts}
@@ -26,8 +27,8 @@ use Rattle.arrays.specs.Filled.{filled}
 use Rattle.arrays.proofs.FillLoops.{filled_front}
 use Rattle.records.specs.Sheet.{nodes_of, edges_of, outer_of, capacity_of, sheet_map, sheet_drawing}
 use Rattle.questions.specs.Solve.{question_checks, Solved}
-use Rattle.questions.specs.declared.SolveAnswer.{SolveAnswer}
-use Rattle.questions.specs.declared.SolveAnswer.TheVariants.{Can, Cannot, Refused}
+use Rattle.questions.specs.declared.Solution.{Solution}
+use Rattle.questions.specs.declared.Solution.TheVariants.{Can, Cannot}
 use Rattle.questions.proofs.Asked.{ends_in, ends_differ}
 use Rattle.questions.proofs.Asked as questions
 use Rattle.questions.proofs.After.{solved_after}
@@ -65,7 +66,7 @@ reached_kept r = (reached_invariant r).kept
 
 -- ── what is answered, of the sheet's drawing with the limits left ──
 module _ (s : List ℕ) (S : Shared) (fs : List (List ℤ)) (r : Reached s S fs) (p source sink : ℕ) (value : ℤ) (flows flows' : List ℤ) (set set' : List ℕ) where
-  pub answered : (S' : Shared) (answer : SolveAnswer) → Asks S p source sink value flows flows' set set' S' answer
+  pub answered : (S' : Shared) (answer : Result Solution Refusal) → Asks S p source sink value flows flows' set set' S' answer
       → Solved (record { map = sheet_map s; capacity = atℤ S.left; outer = outer_of s })
       ((29 when 2 ≤ p) ∷ (30 when S.standing p ≡ committed) ∷ question_checks (nodes_of s) (edges_of s) source sink value flows set)
       source sink value flows flows' set set' answer
@@ -81,40 +82,40 @@ module _ (s : List ℕ) (S : Shared) (fs : List (List ℤ)) (r : Reached s S fs)
       → NoneOf (question_checks (nodes_of s) (edges_of s) source sink value flows set)
   asked_of = behind (S.standing p) p (question_checks (nodes_of s) (edges_of s) source sink value flows set)
 
-  highest : (S' : Shared) → Asks S p source sink value flows flows' set set' S' Can → Highest (sheet_map s) (outer_of s) (atℤ S.left) source sink value
+  highest : (S' : Shared) → Asks S p source sink value flows flows' set set' S' (Ok Can) → Highest (sheet_map s) (outer_of s) (atℤ S.left) source sink value
       (atℤ flows')
   highest S' a =
-      let h = answered S' Can a in
+      let h = answered S' (Ok Can) a in
       let x = h.1.0 in
       highest_agrees (sheet_map s) x (atℤ flows') (λ e l. sym (filled_front (pos 0) (edges_of s) x flows flows' h.1.2 e l)) h.1.1
 
-  cannot_only : (S' : Shared) (answer : SolveAnswer) → Asks S p source sink value flows flows' set set' S' answer
-      → (n : ℕ) × (answer ≡ Cannot n) → (x : ℕ → ℤ) → DeliversLeft s S source sink value x → ⊥
+  cannot_only : (S' : Shared) (answer : Result Solution Refusal) → Asks S p source sink value flows flows' set set' S' answer
+      → (n : ℕ) × (answer ≡ Ok (Cannot n)) → (x : ℕ → ℤ) → DeliversLeft s S source sink value x → ⊥
   cannot_only S' answer a (n, e) =
-      let h = answered S' (Cannot n) (subst (Asks S p source sink value flows flows' set set' S') e a) in
+      let h = answered S' (Ok (Cannot n)) (subst (Asks S p source sink value flows flows' set set' S') e a) in
       let two = (questions.accepted (nodes_of s) (edges_of s) source sink flows set value (asked_of h.0)).ends_two in
       let i = ends_in (nodes_of s) source sink two in
       proves_excludes (plane s (reached_kept r).sheet).sound.range i.0 i.1 (ends_differ (nodes_of s) source sink two)
       (atℤ S.left) value (member h.1.0) h.1.2
 
   module _ (may : MayAsk S p) (asked : NoneOf (question_checks (nodes_of s) (edges_of s) source sink value flows set)) where
-    not_refused : (S' : Shared) (k q : ℕ) → Asks S p source sink value flows flows' set set' S' (Refused k q) → ⊥
-    not_refused S' k q a = first_none _ k q (answered S' (Refused k q) a).0 (none_in_front (S.standing p) p _ may.0 may.1 asked)
+    not_refused : (S' : Shared) (r : Refusal) → Asks S p source sink value flows flows' set set' S' (Err r) → ⊥
+    not_refused S' r a = first_none _ r.number r.place (answered S' (Err r) a).0 (none_in_front (S.standing p) p _ may.0 may.1 asked)
 
-    can_where : (S' : Shared) (answer : SolveAnswer) → Asks S p source sink value flows flows' set set' S' answer
-        → (x : ℕ → ℤ) → DeliversLeft s S source sink value x → answer ≡ Can
-    can_where S' Can a x d = refl
-    can_where S' (Cannot n) a x d = absurd (cannot_only S' (Cannot n) a (n, refl) x d)
-    can_where S' (Refused k q) a x d = absurd (not_refused S' k q a)
+    can_where : (S' : Shared) (answer : Result Solution Refusal) → Asks S p source sink value flows flows' set set' S' answer
+        → (x : ℕ → ℤ) → DeliversLeft s S source sink value x → answer ≡ Ok Can
+    can_where S' (Ok Can) a x d = refl
+    can_where S' (Ok (Cannot n)) a x d = absurd (cannot_only S' (Ok (Cannot n)) a (n, refl) x d)
+    can_where S' (Err r) a x d = absurd (not_refused S' r a)
 
-    cannot_where : (S' : Shared) (answer : SolveAnswer) → Asks S p source sink value flows flows' set set' S' answer
-        → ((x : ℕ → ℤ) → DeliversLeft s S source sink value x → ⊥) → (n : ℕ) × (answer ≡ Cannot n)
-    cannot_where S' Can a none = absurd (none (atℤ flows') (highest S' a).carries)
-    cannot_where S' (Cannot n) a none = (n, refl)
-    cannot_where S' (Refused k q) a none = absurd (not_refused S' k q a)
+    cannot_where : (S' : Shared) (answer : Result Solution Refusal) → Asks S p source sink value flows flows' set set' S' answer
+        → ((x : ℕ → ℤ) → DeliversLeft s S source sink value x → ⊥) → (n : ℕ) × (answer ≡ Ok (Cannot n))
+    cannot_where S' (Ok Can) a none = absurd (none (atℤ flows') (highest S' a).carries)
+    cannot_where S' (Ok (Cannot n)) a none = (n, refl)
+    cannot_where S' (Err r) a none = absurd (not_refused S' r a)
 
 -- before the first commit the limits left are the sheet's
-first_solves : (s : List ℕ) (S S' : Shared) (p source sink : ℕ) (value : ℤ) (flows flows' : List ℤ) (set set' : List ℕ) (answer : SolveAnswer)
+first_solves : (s : List ℕ) (S S' : Shared) (p source sink : ℕ) (value : ℤ) (flows flows' : List ℤ) (set set' : List ℕ) (answer : Result Solution Refusal)
     → Reached s S [] → p < 2 → Asks S p source sink value flows flows' set set' S' answer → Solves s source sink value flows flows' set set' answer
 unfolding solve_checks
 first_solves s S S' p source sink value flows flows' set set' answer r l a =
@@ -127,9 +128,10 @@ first_solves s S S' p source sink value flows flows' set set' answer r l a =
     (answered s S [] r p source sink value flows flows' set set' S' answer a)))
 
 -- ── what a commit says ──
-commit_says : (s : List ℕ) (S S' : Shared) (fs : List (List ℤ)) (p : ℕ) (answer : Verdict) → Reached s S fs → p < 2 → Commits S p S' answer
-    → ((answer ≡ verdict.Refused 28 0) ↔ (S.standing p ≡ idle)) × ((answer ≡ verdict.Passed) ↔ (S.standing p ≡ offered))
-    × ((answer ≡ verdict.Refused 31 0) ↔ (S.standing p ≡ stale)) × ((answer ≡ verdict.Refused 30 0) ↔ (S.standing p ≡ committed))
+commit_says : (s : List ℕ) (S S' : Shared) (fs : List (List ℤ)) (p : ℕ) (answer : Result Unit Refusal)
+    → Reached s S fs → p < 2 → Commits S p S' answer
+    → ((answer ≡ refused 28 0) ↔ (S.standing p ≡ idle)) × ((answer ≡ Ok tt) ↔ (S.standing p ≡ offered))
+    × ((answer ≡ refused 31 0) ↔ (S.standing p ≡ stale)) × ((answer ≡ refused 30 0) ↔ (S.standing p ≡ committed))
 commit_says s S S' fs p answer r l c =
     let i = reached_invariant r in
     let by = exactly S p l (kept_lowerable i.kept p) (i.stands.stood p) S' answer c in
@@ -148,11 +150,12 @@ sessions = record {
   once_each = λ s S fs r. two_at_most (reached_invariant r).stands;
   none_yet = λ s S p r. nobody_yet (reached_invariant r).stands p;
   first_solves = first_solves;
-  ask_refused = λ s S S' fs p source sink value flows flows' set set' k q r a.
-      (answered s S fs r p source sink value flows flows' set set' S' (Refused k q) a).0;
+  ask_refused = λ s S S' fs p source sink value flows flows' set set' q r a.
+      (answered s S fs r p source sink value flows flows' set set' S' (Err q) a).0;
   can_highest = λ s S S' fs p source sink value flows flows' set set' r a. highest s S fs r p source sink value flows flows' set set' S' a;
   can_carries = λ s S S' fs p source sink value flows flows' set set' r a. (highest s S fs r p source sink value flows flows' set set' S' a).carries;
-  cannot_proves = λ s S S' fs p source sink value flows flows' set set' n r a. (answered s S fs r p source sink value flows flows' set set' S' (Cannot n) a).1;
+  cannot_proves = λ s S S' fs p source sink value flows flows' set set' n r a.
+      (answered s S fs r p source sink value flows flows' set set' S' (Ok (Cannot n)) a).1;
   cannot_exactly = λ s S S' fs p source sink value flows flows' set set' answer r may asked a. (
     cannot_only s S fs r p source sink value flows flows' set set' S' answer a,
     cannot_where s S fs r p source sink value flows flows' set set' may asked S' answer a,
@@ -174,7 +177,7 @@ sessions = record {
       (ask_empty S p source sink value flows set l (λ e. absurd (omega (arith, b.no_offer p, e))) b.no_nodes) a;
   barred_28 = λ s S S' fs p answer r l c.
       let i = (barred_bare r).no_offer p in
-      verdict_is S p S' answer (verdict.Refused 28 0)
+      verdict_is S p S' answer (refused 28 0)
       (no_offer S p (λ m. absurd (omega (arith, l, m))) (λ e. absurd (omega (arith, i, e))) (λ e. absurd (omega (arith, i, e)))
       (λ e. absurd (omega (arith, i, e)))) c;
 }
@@ -190,7 +193,7 @@ put_others S S' p a xs e = record {
 put_stands : (S S' : Shared) (p a : ℕ) (xs : List ℤ) → S' ≡ put S p a xs → S'.standing p ≡ a
 put_stands S S' p a xs e = ap (λ (T : Shared). T.standing p) e ∙ own p a (S.standing p)
 
-lowers : (S S' : Shared) (p : ℕ) → Commits S p S' verdict.Passed → (d : ℕ) → d < 2 * S.edges
+lowers : (S S' : Shared) (p : ℕ) → Commits S p S' (Ok tt) → (d : ℕ) → d < 2 * S.edges
     → (atℤ S'.left d ≡ atℤ S.left d -ℤ on_darts (atℤ (S.offer p)) d)
     × (atℤ S'.left (rev d) ≡ atℤ S.left (rev d) +ℤ on_darts (atℤ (S.offer p)) d)
 lowers S S' p c d l = (once d l, once (rev d) (rev_in S.edges d l) ∙ back)
@@ -206,23 +209,23 @@ lowers S S' p c d l = (once d l, once (rev d) (rev_in S.edges d l) ∙ back)
         ∙ (let a = atoms₂ (atℤ S.left (rev d)) (on_darts (atℤ (S.offer p)) d) in equal (search parts) (omega arith))
 
 -- where another party stands after a commit
-stands_beside : (S S' : Shared) (p q : ℕ) → Commits S p S' verdict.Passed → q ≢ p → S'.standing q ≡ staled (S.standing q)
+stands_beside : (S S' : Shared) (p q : ℕ) → Commits S p S' (Ok tt) → q ≢ p → S'.standing q ≡ staled (S.standing q)
 stands_beside S S' p q c h = ap (λ (T : Shared). T.standing q) c.1 ∙ other q p committed (staled (S.standing q)) (λ g. h (sym g))
 
 -- who has committed has until a clear
-ask_stays : (S : Shared) (p o : ℕ) (flows' : List ℤ) (r : SolveAnswer) → S.standing p ≡ committed
-    → ((p ≡ o) → r ≢ Can) → ((p ≡ o) → (n : ℕ) → r ≢ Cannot n) → (after_ask S o flows' r).standing p ≡ committed
-ask_stays S p o flows' Can e can cannot = by (ℕ_discrete p o)
+ask_stays : (S : Shared) (p o : ℕ) (flows' : List ℤ) (r : Result Solution Refusal) → S.standing p ≡ committed
+    → ((p ≡ o) → r ≢ Ok Can) → ((p ≡ o) → (n : ℕ) → r ≢ Ok (Cannot n)) → (after_ask S o flows' r).standing p ≡ committed
+ask_stays S p o flows' (Ok Can) e can cannot = by (ℕ_discrete p o)
   where
     by : Dec (p ≡ o) → cond (eqb p o) offered (S.standing p) ≡ committed
     by (yes h) = absurd (can h refl)
     by (no h) = other p o offered (S.standing p) (λ g. h (sym g)) ∙ e
-ask_stays S p o flows' (Cannot n) e can cannot = by (ℕ_discrete p o)
+ask_stays S p o flows' (Ok (Cannot n)) e can cannot = by (ℕ_discrete p o)
   where
     by : Dec (p ≡ o) → cond (eqb p o) idle (S.standing p) ≡ committed
     by (yes h) = absurd (cannot h n refl)
     by (no h) = other p o idle (S.standing p) (λ g. h (sym g)) ∙ e
-ask_stays S p o flows' (Refused k q) e can cannot = e
+ask_stays S p o flows' (Err r) e can cannot = e
 
 still : (t : Bool) (a : ℕ) → a ≡ committed → cond t committed (staled a) ≡ committed
 still true a e = refl
@@ -235,8 +238,8 @@ stays S S' e p (ask_step o k flows' set' r a) h c =
     (subst (Asks S o k.source k.sink k.value k.flows flows' k.set set' S') f a).solved.0 (subst (λ b. S.standing b ≡ committed) g c))
     (λ g n f. asked_may S o k.source k.sink k.value k.flows k.set
     (subst (Asks S o k.source k.sink k.value k.flows flows' k.set set' S') f a).solved.0 (subst (λ b. S.standing b ≡ committed) g c))
-stays S S' e p (commit_step o verdict.Passed a) h c = ap (λ (T : Shared). T.standing p) a.1 ∙ still (eqb p o) (S.standing p) c
-stays S S' e p (commit_step o (verdict.Refused k q) a) h c = ap (λ (T : Shared). T.standing p) a.1 ∙ c
+stays S S' e p (commit_step o (Ok done) a) h c = ap (λ (T : Shared). T.standing p) a.1 ∙ still (eqb p o) (S.standing p) c
+stays S S' e p (commit_step o (Err r) a) h c = ap (λ (T : Shared). T.standing p) a.1 ∙ c
 stays S S' e p clear_step h c = absurd (h refl)
 
 pub any_value : AnyValue
@@ -257,12 +260,12 @@ any_value = record {
   clear_removes = λ S. (refl, λ q. refl);
   committed_ask = λ S S' p source sink value flows flows' set set' answer l e a.
       told S p source sink value flows set flows' set' S' answer 30 0 (ask_committed S p source sink value flows set l e) a;
-  committed_commit = λ S S' p answer l e c. verdict_is S p S' answer (verdict.Refused 30 0) (has_committed S p (λ m. absurd (omega (arith, l, m))) e) c;
+  committed_commit = λ S S' p answer l e c. verdict_is S p S' answer (refused 30 0) (has_committed S p (λ m. absurd (omega (arith, l, m))) e) c;
   committed_stays = stays;
   ask_29 = λ S S' p source sink value flows flows' set set' answer a. ask_29 S p source sink value flows set flows' set' S' answer a;
   commit_29 = λ S S' p answer c. commit_29 S p S' answer c;
-  ask_keeps = λ S S' p source sink value flows flows' set set' k q a. (a.after, a.solved.1, a.solved.2);
-  commit_keeps = λ S S' p k q c. c.1;
+  ask_keeps = λ S S' p source sink value flows flows' set set' r a. (a.after, a.solved.1, a.solved.2);
+  commit_keeps = λ S S' p r c. c.1;
   unfit_13 = λ S S' p source sink value flows flows' set set' answer unfit may a.
       told S p source sink value flows set flows' set' S' answer 13 0 (ask_unfit S p source sink value flows set may.0 may.1 unfit) a;
 }

@@ -8,18 +8,19 @@ use mathlib.Core.List.{List}
 use native.Mathlib.Omega.{arith}
 use lib.Dec.{eqb}
 use lib.IntN.{ℤ}
+use Rattle.std.specs.Prelude.{Result, Ok, Err}
 use Rattle.integers.proofs.Tests.{eqb_true, eqb_false}
 use Rattle.refusals.specs.Order.{NoneOf, Judged}
-use Rattle.refusals.specs.declared.Verdict.{Verdict}
-use Rattle.refusals.specs.declared.Verdict.TheVariants as verdict
 use Rattle.refusals.proofs.Order.{first_one, judged_one}
+use Rattle.refusals.specs.declared.Refusal.{Refusal}
+use Rattle.refusals.specs.Refused.{refused}
 use Rattle.maps.specs.Drawing.{Drawing}
 use Rattle.arrays.specs.At.{atℤ}
 use Rattle.arrays.specs.Filled.{tabulate, filled}
 use Rattle.questions.specs.Solve.{Solved}
 use Rattle.questions.specs.inner.Named.{SetNamed}
-use Rattle.questions.specs.declared.SolveAnswer.{SolveAnswer}
-use Rattle.questions.specs.declared.SolveAnswer.TheVariants.{Can, Cannot, Refused}
+use Rattle.questions.specs.declared.Solution.{Solution}
+use Rattle.questions.specs.declared.Solution.TheVariants.{Can, Cannot}
 use Rattle.questions.proofs.OneAnswer.{solved_one}
 use Rattle.sessions.specs.Fit.{Fit, OnFit}
 use Rattle.sessions.specs.Ask as ask
@@ -80,13 +81,13 @@ turned v left a xs = record {
 }
 
 -- ── an answer, of the view alone ──
-record AskedOf (v : View) (q source sink : ℕ) (value : ℤ) (flows flows' : List ℤ) (set set' : List ℕ) (r : SolveAnswer) : Type 0 where
+record AskedOf (v : View) (q source sink : ℕ) (value : ℤ) (flows flows' : List ℤ) (set set' : List ℕ) (r : Result Solution Refusal) : Type 0 where
   solved : Solved (shared_drawing (looks v)) (ask_checks (shared_drawing (looks v)) v.mine q source sink value flows set) source sink value
       flows flows' set set' r
   named : SetNamed (shared_drawing (looks v)) source sink value set' r
   on_fit : OnFit (shared_drawing (looks v)) r
 
-asked_of : {S S' : Shared} {q source sink : ℕ} {value : ℤ} {flows flows' : List ℤ} {set set' : List ℕ} {r : SolveAnswer}
+asked_of : {S S' : Shared} {q source sink : ℕ} {value : ℤ} {flows flows' : List ℤ} {set set' : List ℕ} {r : Result Solution Refusal}
     → Asks S q source sink value flows flows' set set' S' r → AskedOf (view q S) q source sink value flows flows' set set' r
 asked_of a = record { solved = a.solved; named = a.named; on_fit = a.on_fit }
 
@@ -101,7 +102,7 @@ module _ (v : View) (q source sink : ℕ) (value : ℤ) (flows : List ℤ) (set 
       let b : v.nodes ≤ sink → ⊥ = λ l. h.1.1.0 (inr (inl l)) in
       (omega (arith, a), omega (arith, b), h.1.1.1.0)
 
-  on_one : {flows' flows'' : List ℤ} {set' set'' : List ℕ} (r r' : SolveAnswer) → Fit (shared_drawing (looks v))
+  on_one : {flows' flows'' : List ℤ} {set' set'' : List ℕ} (r r' : Result Solution Refusal) → Fit (shared_drawing (looks v))
       → AskedOf v q source sink value flows flows' set set' r → AskedOf v q source sink value flows flows'' set set'' r'
       → (r ≡ r') × (flows' ≡ flows'') × (set' ≡ set'')
   on_one {flows'} {flows''} {set'} {set''} r r' fit a b =
@@ -109,16 +110,16 @@ module _ (v : View) (q source sink : ℕ) (value : ℤ) (flows : List ℤ) (set 
       (ask_checks (shared_drawing (looks v)) v.mine q source sink value flows set) source sink value ends flows set
       flows' flows'' set' set'' r r' a.solved a.named b.solved b.named
 
-  asked_one : {flows' flows'' : List ℤ} {set' set'' : List ℕ} (r r' : SolveAnswer)
+  asked_one : {flows' flows'' : List ℤ} {set' set'' : List ℕ} (r r' : Result Solution Refusal)
       → AskedOf v q source sink value flows flows' set set' r → AskedOf v q source sink value flows flows'' set set'' r'
       → (r ≡ r') × (flows' ≡ flows'') × (set' ≡ set'')
-  asked_one Can r' a b = on_one Can r' a.on_fit a b
-  asked_one (Cannot n) r' a b = on_one (Cannot n) r' a.on_fit a b
-  asked_one (Refused k p) Can a b = on_one (Refused k p) Can b.on_fit a b
-  asked_one (Refused k p) (Cannot n) a b = on_one (Refused k p) (Cannot n) b.on_fit a b
-  asked_one (Refused k p) (Refused j o) a b =
-      let e = first_one _ k p j o a.solved.0 b.solved.0 in
-      (ap₂ Refused e.0 e.1, a.solved.1 ∙ sym b.solved.1, a.solved.2 ∙ sym b.solved.2)
+  asked_one (Ok Can) r' a b = on_one (Ok Can) r' a.on_fit a b
+  asked_one (Ok (Cannot n)) r' a b = on_one (Ok (Cannot n)) r' a.on_fit a b
+  asked_one (Err r) (Ok Can) a b = on_one (Err r) (Ok Can) b.on_fit a b
+  asked_one (Err r) (Ok (Cannot n)) a b = on_one (Err r) (Ok (Cannot n)) b.on_fit a b
+  asked_one (Err r) (Err o) a b =
+      let e = first_one _ r.number r.place o.number o.place a.solved.0 b.solved.0 in
+      (ap₂ refused e.0 e.1, a.solved.1 ∙ sym b.solved.1, a.solved.2 ∙ sym b.solved.2)
 
 -- ── the view after it ──
 pub own : {A : Type 0} (q : ℕ) (a b : A) → cond (eqb q q) a b ≡ a
@@ -127,22 +128,22 @@ own q a b = ap (λ t. cond t a b) (eqb_true q q refl)
 pub other : {A : Type 0} (q p : ℕ) (a b : A) → p ≢ q → cond (eqb q p) a b ≡ b
 other q p a b h = ap (λ t. cond t a b) (eqb_false q p (λ e. h (sym e)))
 
-after_view : View → List ℤ → SolveAnswer → View
-after_view v flows' Can = turned v v.left offered (filled v.edges (atℤ flows') v.offer)
-after_view v flows' (Cannot n) = turned v v.left idle v.offer
-after_view v flows' (Refused k p) = v
+after_view : View → List ℤ → Result Solution Refusal → View
+after_view v flows' (Ok Can) = turned v v.left offered (filled v.edges (atℤ flows') v.offer)
+after_view v flows' (Ok (Cannot n)) = turned v v.left idle v.offer
+after_view v flows' (Err r) = v
 
 put_view : (q : ℕ) (S : Shared) (a : ℕ) (xs : List ℤ) → view q (put S q a xs) ≡ turned (view q S) S.left a xs
 put_view q S a xs = ap₂ (turned (view q S) S.left) (own q a (S.standing q)) (own q xs (S.offer q))
 
-after-view : (q : ℕ) (S : Shared) (flows' : List ℤ) (r : SolveAnswer) → view q (after_ask S q flows' r) ≡ after_view (view q S) flows' r
+after-view : (q : ℕ) (S : Shared) (flows' : List ℤ) (r : Result Solution Refusal) → view q (after_ask S q flows' r) ≡ after_view (view q S) flows' r
 unfolding after_view
-after-view q S flows' Can = put_view q S offered _
-after-view q S flows' (Cannot n) = put_view q S idle _
-after-view q S flows' (Refused k p) = refl
+after-view q S flows' (Ok Can) = put_view q S offered _
+after-view q S flows' (Ok (Cannot n)) = put_view q S idle _
+after-view q S flows' (Err r) = refl
 
 pub ask_one : (q : ℕ) (S T : Shared) → view q S ≡ view q T → (source sink : ℕ) (value : ℤ) (flows : List ℤ) (set : List ℕ)
-    → {flows' flows'' : List ℤ} {set' set'' : List ℕ} {S' T' : Shared} (r r' : SolveAnswer)
+    → {flows' flows'' : List ℤ} {set' set'' : List ℕ} {S' T' : Shared} (r r' : Result Solution Refusal)
     → Asks S q source sink value flows flows' set set' S' r → Asks T q source sink value flows flows'' set set'' T' r'
     → (r ≡ r') × (flows' ≡ flows'') × (set' ≡ set'') × (view q S' ≡ view q T')
 ask_one q S T e source sink value flows set {flows'} {flows''} {set'} {set''} {S'} {T'} r r' a b =
@@ -156,10 +157,10 @@ ask_one q S T e source sink value flows set {flows'} {flows''} {set'} {set''} {S
     )
 
 -- ── a commit ──
-commit_judged : (q : ℕ) (S S' : Shared) (v : Verdict) → Commits S q S' v → Judged (commit_checks (looks (view q S)) q) v
+commit_judged : (q : ℕ) (S S' : Shared) (v : Result Unit Refusal) → Commits S q S' v → Judged (commit_checks (looks (view q S)) q) v
 unfolding commit_checks
-commit_judged q S S' verdict.Passed c = c.0
-commit_judged q S S' (verdict.Refused k p) c = c.0
+commit_judged q S S' (Ok done) c = c.0
+commit_judged q S S' (Err r) c = c.0
 
 committed_view : View → View
 committed_view v = turned v (lowered_by v.edges v.left (tabulate v.edges (atℤ v.offer))) committed v.offer
@@ -168,12 +169,13 @@ let_in_view : (q : ℕ) (S : Shared) → view q (let_in S q) ≡ committed_view 
 unfolding committed_view
 let_in_view q S = ap (λ a. turned (view q S) (lowered_by S.edges S.left (flows_of S q)) a (S.offer q)) (own q committed (staled (S.standing q)))
 
-commit_views : (q : ℕ) (S T : Shared) → view q S ≡ view q T → (S' T' : Shared) (v : Verdict) → Commits S q S' v → Commits T q T' v → view q S' ≡ view q T'
-commit_views q S T e S' T' verdict.Passed a b =
+commit_views : (q : ℕ) (S T : Shared) → view q S ≡ view q T → (S' T' : Shared) (v : Result Unit Refusal)
+    → Commits S q S' v → Commits T q T' v → view q S' ≡ view q T'
+commit_views q S T e S' T' (Ok done) a b =
     ap (view q) a.1 ∙ let_in_view q S ∙ ap committed_view e ∙ sym (let_in_view q T) ∙ sym (ap (view q) b.1)
-commit_views q S T e S' T' (verdict.Refused k p) a b = ap (view q) a.1 ∙ e ∙ sym (ap (view q) b.1)
+commit_views q S T e S' T' (Err r) a b = ap (view q) a.1 ∙ e ∙ sym (ap (view q) b.1)
 
-pub commit_one : (q : ℕ) (S T : Shared) → view q S ≡ view q T → (S' T' : Shared) (v w : Verdict) → Commits S q S' v → Commits T q T' w
+pub commit_one : (q : ℕ) (S T : Shared) → view q S ≡ view q T → (S' T' : Shared) (v w : Result Unit Refusal) → Commits S q S' v → Commits T q T' w
     → (v ≡ w) × (view q S' ≡ view q T')
 commit_one q S T e S' T' v w a b =
     let same : v ≡ w = judged_one (commit_checks (looks (view q T)) q) v w

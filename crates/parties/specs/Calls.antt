@@ -1,16 +1,15 @@
 -- The calls of a shared session. Document 02, Job 12: "In both calls 29, no such party, comes first and 30, already committed, second; in Commit 28 is third
 -- and 31, stale offer, fourth." Ask's 13 to 16 follow.
-use Rattle.std.specs.Prelude.{ℕ, ◌≤◌, ◌≡◌, ◌⊎◌, ◌≢◌, List, [], ◌∷◌, ℤ}
+use Rattle.std.specs.Prelude.{ℕ, ◌≤◌, ◌≡◌, ◌⊎◌, ◌≢◌, List, [], ◌∷◌, ℤ, Result, Ok, Err}
 use Rattle.refusals.specs.Order.{Check, ◌when◌, NoneOf, FirstOf}
-use Rattle.refusals.specs.declared.Verdict.{Verdict}
-use Rattle.refusals.specs.declared.Verdict.TheVariants as verdict
+use Rattle.refusals.specs.declared.Refusal.{Refusal}
 use Rattle.maps.specs.Drawing.{Drawing}
 use Rattle.arrays.specs.At.{atℤ}
 use Rattle.arrays.specs.Filled.{filled}
 use Rattle.questions.specs.Solve.{Solved}
 use Rattle.questions.specs.inner.Named.{SetNamed}
-use Rattle.questions.specs.declared.SolveAnswer.{SolveAnswer}
-use Rattle.questions.specs.declared.SolveAnswer.TheVariants.{Can, Cannot, Refused}
+use Rattle.questions.specs.declared.Solution.{Solution}
+use Rattle.questions.specs.declared.Solution.TheVariants.{Can, Cannot}
 use Rattle.sessions.specs.Fit.{Lowerable, OnFit}
 use Rattle.sessions.specs.Ask as ask
 use Rattle.parties.specs.Shared.{idle, offered, stale, committed, Shared, shared_drawing, put, let_in}
@@ -28,18 +27,19 @@ commit_checks S p =
     ∷ (31 when (S.standing p ≡ stale) ⊎ (Lowerable S.edges (atℤ S.left) (atℤ (S.offer p)) → ⊥))
     ∷ []
 
-abbrev pub after_ask : Shared → ℕ → List ℤ → SolveAnswer → Shared
-after_ask S p flows' Can = put S p offered (filled S.edges (atℤ flows') (S.offer p))
-after_ask S p flows' (Cannot n) = put S p idle (S.offer p)
-after_ask S p flows' (Refused k q) = S
+abbrev pub after_ask : Shared → ℕ → List ℤ → Result Solution Refusal → Shared
+after_ask S p flows' (Ok Can) = put S p offered (filled S.edges (atℤ flows') (S.offer p))
+after_ask S p flows' (Ok (Cannot n)) = put S p idle (S.offer p)
+after_ask S p flows' (Err r) = S
 
 -- Ask: Solve's answer on the limits left, the set the one that the search names; then the session after it
-pub record Asks (S : Shared) (p source sink : ℕ) (value : ℤ) (flows flows' : List ℤ) (set set' : List ℕ) (S' : Shared) (r : SolveAnswer) : Type 0 where
+pub record Asks (S : Shared) (p source sink : ℕ) (value : ℤ) (flows flows' : List ℤ) (set set' : List ℕ) (S' : Shared)
+    (r : Result Solution Refusal) : Type 0 where
   pub solved : Solved (shared_drawing S) (ask_checks (shared_drawing S) (S.standing p) p source sink value flows set) source sink value flows flows' set set' r
   pub named : SetNamed (shared_drawing S) source sink value set' r
   pub on_fit : OnFit (shared_drawing S) r
   pub after : S' ≡ after_ask S p flows' r
 
-abbrev pub Commits : Shared → ℕ → Shared → Verdict → Type 0
-Commits S p S' verdict.Passed = NoneOf (commit_checks S p) × (S' ≡ let_in S p)
-Commits S p S' (verdict.Refused k q) = FirstOf (commit_checks S p) k q × (S' ≡ S)
+abbrev pub Commits : Shared → ℕ → Shared → Result Unit Refusal → Type 0
+Commits S p S' (Ok done) = NoneOf (commit_checks S p) × (S' ≡ let_in S p)
+Commits S p S' (Err r) = FirstOf (commit_checks S p) r.number r.place × (S' ≡ S)

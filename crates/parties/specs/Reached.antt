@@ -1,7 +1,7 @@
 -- A session begun by a start and passed on only through the calls. Document 02, Job 12: "Clearing counts among the calls of Job 11, whose account now sums both
 -- parties' flows since the last clear."
-use Rattle.std.specs.Prelude.{ℕ, ◌≡◌, List, [], ◌∷◌, ℤ, pos, ◌+ℤ◌}
-use Rattle.refusals.specs.declared.Verdict.TheVariants.{Passed, Refused}
+use Rattle.std.specs.Prelude.{ℕ, ◌≡◌, List, [], ◌∷◌, ℤ, pos, ◌+ℤ◌, Ok, Err}
+use Rattle.refusals.specs.declared.Refusal.{Refusal}
 use Rattle.flows.specs.Settings.{on_darts}
 use Rattle.arrays.specs.At.{atℤ}
 use Rattle.parties.specs.Shared.{Shared}
@@ -16,8 +16,8 @@ total (xs ∷ fs) d = on_darts (atℤ xs) d +ℤ total fs d
 -- the flows let in after an event, where fs were before it, the last in front: whose commit it was does not matter, and a clear begins anew
 unfoldable pub booked : List (List ℤ) → Event → List (List ℤ)
 booked fs (asks p k flows' set' r) = fs
-booked fs (commits p xs Passed) = xs ∷ fs
-booked fs (commits p xs (Refused k q)) = fs
+booked fs (commits p xs (Ok done)) = xs ∷ fs
+booked fs (commits p xs (Err r)) = fs
 booked fs clears = []
 
 -- and after a run
@@ -29,7 +29,7 @@ since fs (e ∷ es) = since (booked fs e) es
 -- commits since the last clear
 pub record Reached (s : List ℕ) (S : Shared) (fs : List (List ℤ)) : Type 0 where
   pub first : Shared
-  pub starts : Starts s first Passed
+  pub starts : Starts s first (Ok tt)
   pub events : List Event
   pub run : Run first events S
   pub flows_are : fs ≡ since [] events
@@ -37,9 +37,8 @@ pub record Reached (s : List ℕ) (S : Shared) (fs : List (List ℤ)) : Type 0 w
 -- the same from one that was refused
 pub record Barred (s : List ℕ) (S : Shared) (fs : List (List ℤ)) : Type 0 where
   pub first : Shared
-  pub number : ℕ
-  pub place : ℕ
-  pub starts : Starts s first (Refused number place)
+  pub refusal : Refusal
+  pub starts : Starts s first (Err refusal)
   pub events : List Event
   pub run : Run first events S
   pub flows_are : fs ≡ since [] events

@@ -1,10 +1,9 @@
 -- What a party sees of a run, and what it gets. Document 02, Job 12: "If two runs from one start differ only in one party's asks and refused commits, and have
 -- the same accepted commits with the same flows and the same clears, in the same order, between the same calls of the other party, the other party gets the
 -- same answers."
-use Rattle.std.specs.Prelude.{ℕ, cond, List, [], ◌∷◌, ◌++◌, eqb, ℤ}
-use Rattle.refusals.specs.declared.Verdict.{Verdict}
-use Rattle.refusals.specs.declared.Verdict.TheVariants as verdict
-use Rattle.questions.specs.declared.SolveAnswer.{SolveAnswer}
+use Rattle.std.specs.Prelude.{ℕ, cond, List, [], ◌∷◌, ◌++◌, eqb, ℤ, Result, Ok, Err}
+use Rattle.refusals.specs.declared.Refusal.{Refusal}
+use Rattle.questions.specs.declared.Solution.{Solution}
 use Rattle.parties.specs.Shared.{Shared, cleared, flows_of}
 use Rattle.parties.specs.Calls.{Asks, Commits}
 
@@ -18,13 +17,13 @@ pub record Question : Type 0 where
 
 -- what a call gives its party: of a question both slices as they are left and the answer, of a commit the verdict
 pub data Gift : Type 0 where
-  answered : List ℤ → List ℕ → SolveAnswer → Gift
-  judged : Verdict → Gift
+  answered : List ℤ → List ℕ → Result Solution Refusal → Gift
+  judged : Result Unit Refusal → Gift
 
 -- a call with what came of it: a question; a commit with the flows of its party's offer; a clear
 pub data Event : Type 0 where
-  asks : ℕ → Question → List ℤ → List ℕ → SolveAnswer → Event
-  commits : ℕ → List ℤ → Verdict → Event
+  asks : ℕ → Question → List ℤ → List ℕ → Result Solution Refusal → Event
+  commits : ℕ → List ℤ → Result Unit Refusal → Event
   clears : Event
 
 -- party q sees its own calls, the others' accepted commits with their flows, and clears
@@ -34,9 +33,9 @@ pub data Seen : Type 0 where
   theirs : List ℤ → Seen
   wiped : Seen
 
-unfoldable pub accepted : List ℤ → Verdict → List Seen
-accepted xs verdict.Passed = theirs xs ∷ []
-accepted xs (verdict.Refused k p) = []
+unfoldable pub accepted : List ℤ → Result Unit Refusal → List Seen
+accepted xs (Ok done) = theirs xs ∷ []
+accepted xs (Err r) = []
 
 unfoldable pub seen : ℕ → Event → List Seen
 seen q (asks p k flows' set' r) = cond (eqb p q) (own_ask k ∷ []) []
@@ -59,9 +58,9 @@ gifts q (e ∷ es) = gift q e ++ gifts q es
 
 -- a call
 pub data Step : Shared → Event → Shared → Type 0 where
-  ask_step : {S S' : Shared} (p : ℕ) (k : Question) (flows' : List ℤ) (set' : List ℕ) (r : SolveAnswer)
+  ask_step : {S S' : Shared} (p : ℕ) (k : Question) (flows' : List ℤ) (set' : List ℕ) (r : Result Solution Refusal)
       → Asks S p k.source k.sink k.value k.flows flows' k.set set' S' r → Step S (asks p k flows' set' r) S'
-  commit_step : {S S' : Shared} (p : ℕ) (v : Verdict) → Commits S p S' v → Step S (commits p (flows_of S p) v) S'
+  commit_step : {S S' : Shared} (p : ℕ) (v : Result Unit Refusal) → Commits S p S' v → Step S (commits p (flows_of S p) v) S'
   clear_step : {S : Shared} → Step S clears (cleared S)
 
 -- a run

@@ -1,9 +1,8 @@
 -- Start. Document 02, Job 11: "A session starts from a sheet. A start refused by the sheet checks gives a session of no nodes and no channels, .. and there is
 -- no offer."; Job 12: "If two runs from one start .." What a start leaves follows from the sheet alone: it says every place of the session.
-use Rattle.std.specs.Prelude.{ℕ, ◌≡◌, List, pos}
+use Rattle.std.specs.Prelude.{ℕ, ◌≡◌, List, pos, Result, Ok, Err}
 use Rattle.refusals.specs.Order.{NoneOf, FirstOf}
-use Rattle.refusals.specs.declared.Verdict.{Verdict}
-use Rattle.refusals.specs.declared.Verdict.TheVariants.{Passed, Refused}
+use Rattle.refusals.specs.declared.Refusal.{Refusal}
 use Rattle.maps.specs.Drawing.{Drawing}
 use Rattle.arrays.specs.Filled.{tabulate}
 use Rattle.records.specs.Sheet.{sheet_drawing}
@@ -37,6 +36,6 @@ abbrev pub emptied : Shared
 emptied = begun_on no_drawing
 
 -- a start from the bytes s, in whatever memory, leaves S'
-abbrev pub Starts : List ℕ → Shared → Verdict → Type 0
-Starts s S' Passed = NoneOf (sheet_checks s) × (S' ≡ started s)
-Starts s S' (Refused k p) = FirstOf (sheet_checks s) k p × (S' ≡ emptied)
+abbrev pub Starts : List ℕ → Shared → Result Unit Refusal → Type 0
+Starts s S' (Ok done) = NoneOf (sheet_checks s) × (S' ≡ started s)
+Starts s S' (Err r) = FirstOf (sheet_checks s) r.number r.place × (S' ≡ emptied)

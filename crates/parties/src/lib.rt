@@ -12,8 +12,18 @@ ghost use Rattle.parties.specs.Calls.{Asks, Commits};
 ghost use Rattle.parties.specs.inner.Taken.{Taken};
 
 use arrays::wide;
-use questions::SolveAnswer;
-use refusals::Verdict;
+use questions::Solution;
+use refusals::{Refusal, refused};
+
+// Where a party stands: it has no offer, an offer, an offer that another's commit made stale, or it has committed. Numbers, not an enum: C's `struct session`
+// holds a byte for each party, and a byte of any other value is as no offer (specs/Shared.antt).
+const IDLE: u8 = 0;
+
+const OFFERED: u8 = 1;
+
+const STALE: u8 = 2;
+
+const COMMITTED: u8 = 3;
 
 // Zeros everywhere: no nodes, no edges, no offer, and nothing of what was there.
 fn erase(
@@ -38,28 +48,9 @@ fn erase(
     *rotations = [0u16; 1024];
     *limits = [0i32; 1024];
     *left = [0i32; 1024];
-    *standing = [0u8; 2];
+    *standing = [IDLE; 2];
     *first = [0i32; 512];
     *second = [0i32; 512];
-}
-
-// All limits of the sheet are left.
-fn restore(limits: &[i32], left: &mut [i32])
-    requires { (length limits.now ≡ 1024) × (length left.old ≡ 1024) }
-    ensures { left.new ≡ limits.now }
-{
-    for dart in 0..1024usize {
-        left[dart] = limits[dart];
-    }
-}
-
-// Neither party has an offer or has committed.
-fn stand_idle(standing: &mut [u8])
-    requires { length standing.old ≡ 2 }
-    ensures { (length standing.new ≡ 2) × ((q : ℕ) → at standing.new q ≡ 0) }
-{
-    standing[0] = 0;
-    standing[1] = 0;
 }
 
 // Start: the sheet's drawing, its limits, all of them left, and no offer; where the sheet is refused, a session of no nodes and no edges, with no offer. Every
@@ -76,7 +67,7 @@ pub fn start(
     standing: &mut [u8; 2],
     first: &mut [i32; 512],
     second: &mut [i32; 512],
-) -> Verdict
+) -> Result<(), Refusal>
     ensures { Starts sheet.now
         (shared_of nodes.new edges.new outer.new tails.new rotations.new limits.new
         left.new standing.new first.new second.new) result }
@@ -89,18 +80,15 @@ pub fn start(
     erase(
         nodes, edges, outer, tails, rotations, limits, left, standing, first, second,
     );
-    if !net.accepted {
-        return Verdict::Refused(net.refusal, net.place);
-    }
-    let sizes = net.sizes;
+    let sizes = net.opened?;
     *nodes = arrays::narrow(sizes.nodes);
     *edges = arrays::narrow(sizes.edges);
     *outer = arrays::narrow(sizes.outer);
-    sheets::copy_darts(&net.tails, tails);
-    sheets::copy_darts(&net.rotations, rotations);
-    sheets::copy_capacities(&net.capacities, limits);
-    sheets::copy_capacities(&net.capacities, left);
-    Verdict::Passed
+    tails.copy_from_slice(&net.tails);
+    rotations.copy_from_slice(&net.rotations);
+    limits.copy_from_slice(&net.capacities);
+    left.copy_from_slice(&net.capacities);
+    Ok(())
 }
 
 // Where a party stands from now on.
@@ -150,7 +138,7 @@ pub fn ask<'a>(
     value: i32,
     flows: &mut [i32],
     set: &mut [u64],
-) -> SolveAnswer
+) -> Result<Solution, Refusal>
     ensures { Asks
         (shared_of sizes.nodes sizes.edges sizes.outer tails.now rotations.now limits.now left.now
         standing.old first.old second.old)
@@ -159,13 +147,14 @@ pub fn ask<'a>(
         standing.new first.new second.new) result }
 {
     if party >= 2 {
-        return SolveAnswer::Refused(29, 0);
+        return refused(29);
     }
     let p = wide(party);
-    if standing[p] == 3 {
-        return SolveAnswer::Refused(30, 0);
+    let stands = standing[p];
+    if stands == COMMITTED {
+        return refused(30);
     }
-    let answer = sessions::answer_left(
+    let solution = sessions::answer_left(
         sizes.nodes,
         sizes.edges,
         sizes.outer,
@@ -177,19 +166,17 @@ pub fn ask<'a>(
         value,
         flows,
         set,
-    );
-    match answer {
-        SolveAnswer::Can => {
+    )?;
+    match solution {
+        Solution::Can => {
             keep_offer(p, &*flows, wide(sizes.edges), first, second);
-            stand(standing, p, 1);
-            SolveAnswer::Can
+            stand(standing, p, OFFERED);
         }
-        SolveAnswer::Cannot(n) => {
-            stand(standing, p, 0);
-            SolveAnswer::Cannot(n)
+        Solution::Cannot(_) => {
+            stand(standing, p, IDLE);
         }
-        SolveAnswer::Refused(k, q) => SolveAnswer::Refused(k, q),
     }
+    Ok(solution)
 }
 
 // Lowers the limits left by the offer, where they can be: answers whether.
@@ -197,11 +184,11 @@ fn take(edges: u16, left: &mut [i32; 1024], offer: &[i32; 512]) -> bool
     ensures { Taken edges left.old offer.now left.new result }
 {
     let m = wide(edges);
-    if sessions::lowerable(&*left, offer, m) {
+    let lowerable = sessions::lowerable(&*left, offer, m);
+    if lowerable {
         sessions::lower(left, offer, m);
-        return true;
     }
-    false
+    lowerable
 }
 
 // The same by a party's offer: the first array is party 0's.
@@ -224,10 +211,7 @@ fn take_of(
 fn staled_by(stands: u8) -> u8
     ensures { result ≡ staled stands }
 {
-    if stands == 1 {
-        return 2;
-    }
-    stands
+    if stands == OFFERED { STALE } else { stands }
 }
 
 // Where both stand after a party's commit.
@@ -237,11 +221,11 @@ fn stand_committed(party: u16, standing: &mut [u8])
         × ((q : ℕ) → at standing.new q ≡ cond (eqb q party) committed (staled (at standing.old q))) }
 {
     if party == 0 {
-        standing[0] = 3;
+        standing[0] = COMMITTED;
         standing[1] = staled_by(standing[1]);
     } else {
         standing[0] = staled_by(standing[0]);
-        standing[1] = 3;
+        standing[1] = COMMITTED;
     }
 }
 
@@ -259,7 +243,7 @@ pub fn commit<'a>(
     standing: &mut [u8; 2],
     first: &[i32; 512],
     second: &[i32; 512],
-) -> Verdict
+) -> Result<(), Refusal>
     ensures { Commits
         (shared_of nodes edges outer tails.now rotations.now limits.now left.old
         standing.old first.now second.now)
@@ -268,23 +252,23 @@ pub fn commit<'a>(
         standing.new first.now second.now) result }
 {
     if party >= 2 {
-        return Verdict::Refused(29, 0);
+        return refused(29);
     }
     let stands = standing[wide(party)];
-    if stands == 3 {
-        return Verdict::Refused(30, 0);
+    if stands == COMMITTED {
+        return refused(30);
     }
-    if stands == 2 {
-        return Verdict::Refused(31, 0);
+    if stands == STALE {
+        return refused(31);
     }
-    if stands != 1 {
-        return Verdict::Refused(28, 0);
+    if stands != OFFERED {
+        return refused(28);
     }
-    if take_of(party, edges, left, first, second) {
-        stand_committed(party, standing);
-        return Verdict::Passed;
+    if !take_of(party, edges, left, first, second) {
+        return refused(31);
     }
-    Verdict::Refused(31, 0)
+    stand_committed(party, standing);
+    Ok(())
 }
 
 // Clear: the sheet's limits are left again, and neither party has an offer or has committed. Never refused. The counts, the outer dart, the arrays of the
@@ -306,6 +290,6 @@ pub fn clear<'a>(
         ≡ cleared (shared_of nodes edges outer tails.now rotations.now limits.now left.old
         standing.old first.now second.now) }
 {
-    restore(limits, left);
-    stand_idle(standing);
+    left.copy_from_slice(limits);
+    *standing = [IDLE; 2];
 }

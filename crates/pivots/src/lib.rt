@@ -6,10 +6,10 @@
 // its steps, and sums wrap: no step rests on what an array holds.
 #![tactic(auto)]
 
-ghost use Rattle.std.specs.Prelude.{◌≡◌, ◌+◌, ◌<◌, ◌≤◌, length};
+ghost use Rattle.std.specs.Prelude.{◌≡◌, ℕ, ◌<◌, ◌≤◌, length, IfSome};
 
-// The mark of a node from which a dart leads on.
-const UNMARKED: u16 = 65535;
+// The mark of a node from which a dart leads on. It is a number and no Option, as the array of the counts holds it.
+const UNMARKED: u16 = u16::MAX;
 
 // As many pivots as are made: more have not been seen to help.
 const PIVOTS: usize = 1024;
@@ -18,14 +18,14 @@ const PIVOTS: usize = 1024;
 fn place(x: u16) -> usize
     ensures { result < 1024 }
 {
-    arrays::wide(x) % 1024
+    usize::from(x) % 1024
 }
 
 fn number(x: usize) -> u16
     requires { x < 1024 }
     ensures { result ≡ x }
 {
-    arrays::narrow(x)
+    x as u16
 }
 
 // The node that the dart d leads to.
@@ -39,37 +39,29 @@ fn head(tails: &[u16; 1024], d: usize) -> usize
 
 // What more each dart can carry beside the flows.
 fn fill_slacks(capacities: &[i32; 1024], edges: usize, flows: &[i32], slacks: &mut [u32; 1024])
-    requires { (length slacks.old ≡ 1024) × (edges ≤ 512) × (edges ≤ length flows.now) }
-    ensures { length slacks.new ≡ 1024 }
+    requires { (edges ≤ 512) × (edges ≤ length flows.now) }
 {
     for e in 0..edges {
-        let flow = signed::to_bits(flows[e]);
-        slacks[2 * e] = std::num::wrapping_sub_u32(signed::to_bits(capacities[2 * e]), flow);
-        slacks[2 * e + 1] = std::num::wrapping_add_u32(
-            signed::to_bits(capacities[2 * e + 1]),
-            flow,
-        );
+        let flow = flows[e].cast_unsigned();
+        slacks[2 * e] = capacities[2 * e].cast_unsigned().wrapping_sub(flow);
+        slacks[2 * e + 1] = capacities[2 * e + 1].cast_unsigned().wrapping_add(flow);
     }
 }
 
 // Marks the edges that the tree of the faces crosses. A face without a parent has the mark 1,024, whose half is no edge.
-fn mark_crossed(parents: &[u16; 1024], faces: usize, crossed: &mut [u8; 1024])
-    requires { length crossed.old ≡ 1024 }
-    ensures { length crossed.new ≡ 1024 }
-{
-    for f in 0..faces {
-        crossed[place(parents[f % 1024] / 2)] = 1;
+fn mark_crossed(parents: &[u16; 1024], faces: usize, crossed: &mut [u8; 1024]) {
+    for parent in parents.iter().take(faces) {
+        crossed[place(*parent / 2)] = 1;
     }
 }
 
 // Lays the dart d at its node: how many lie there, and all of them by exclusive or.
 fn lay(tails: &[u16; 1024], d: usize, to: &mut [u16; 1024], counts: &mut [u16; 1024])
-    requires { (length to.old ≡ 1024) × (length counts.old ≡ 1024) × (d < 1024) }
-    ensures { (length to.new ≡ 1024) × (length counts.new ≡ 1024) }
+    requires { d < 1024 }
 {
     let v = place(tails[d]);
     to[v] = to[v] ^ number(d);
-    counts[v] = std::num::wrapping_add_u16(counts[v], 1);
+    counts[v] = counts[v].wrapping_add(1);
 }
 
 // Lays both darts of each edge that is not crossed.
@@ -80,13 +72,9 @@ fn lay_all(
     to: &mut [u16; 1024],
     counts: &mut [u16; 1024],
 )
-    requires { (length to.old ≡ 1024) × (length counts.old ≡ 1024) × (edges ≤ 512) }
-    ensures { (length to.new ≡ 1024) × (length counts.new ≡ 1024) }
+    requires { edges ≤ 512 }
 {
-    let mut next: usize = 0;
-    while next < edges {
-        let e = next;
-        next += 1;
+    for e in 0..edges {
         if crossed[e] == 0 {
             lay(tails, 2 * e, &mut *to, &mut *counts);
             lay(tails, 2 * e + 1, &mut *to, &mut *counts);
@@ -96,24 +84,44 @@ fn lay_all(
 
 // The node w, which has one dart left, goes on by it. That dart's reverse is taken from the next node, which is the answer.
 fn go_on(tails: &[u16; 1024], w: usize, to: &mut [u16; 1024], counts: &mut [u16; 1024]) -> usize
-    requires { (length to.old ≡ 1024) × (length counts.old ≡ 1024) × (w < 1024) }
-    ensures { (length to.new ≡ 1024) × (length counts.new ≡ 1024) × (result < 1024) }
+    requires { w < 1024 }
+    ensures { result < 1024 }
 {
     counts[w] = UNMARKED;
     let back = arrays::reverse(place(to[w]));
     let v = place(tails[back]);
     to[v] = to[v] ^ number(back);
-    counts[v] = std::num::wrapping_sub_u16(counts[v], 1);
+    counts[v] = counts[v].wrapping_sub(1);
     v
+}
+
+// The first node on the way from v at which it stops, if it comes to one.
+fn first_on_way<F: Fn(usize) -> bool>(
+    tails: &[u16; 1024],
+    to: &[u16; 1024],
+    v: usize,
+    stops: F,
+) -> Option<usize>
+    requires node { v < 1024 }
+    requires at_nodes { (w : ℕ) → w < 1024 → F.pre stops w }
+    ensures { IfSome result (λ w. w < 1024) }
+{
+    let mut w = v;
+    for _ in 0..1024usize {
+        if stops(w) {
+            return Some(w);
+        }
+        w = head(tails, place(to[w]));
+    }
+    None
 }
 
 // Strips the node v, if it has one dart left, then the next node, if that has one left now, and so on.
 fn strip(tails: &[u16; 1024], v: usize, to: &mut [u16; 1024], counts: &mut [u16; 1024])
-    requires { (length to.old ≡ 1024) × (length counts.old ≡ 1024) × (v < 1024) }
-    ensures { (length to.new ≡ 1024) × (length counts.new ≡ 1024) }
+    requires { v < 1024 }
 {
     let mut w = v;
-    for i in 0..1024usize {
+    for _ in 0..1024usize {
         if counts[w] != 1 {
             return;
         }
@@ -125,17 +133,7 @@ fn strip(tails: &[u16; 1024], v: usize, to: &mut [u16; 1024], counts: &mut [u16;
 fn leads(tails: &[u16; 1024], to: &[u16; 1024], counts: &[u16; 1024], v: usize, sink: usize) -> bool
     requires { v < 1024 }
 {
-    let mut w = v;
-    for i in 0..1024usize {
-        if w == sink {
-            return true;
-        }
-        if counts[w] != UNMARKED {
-            return false;
-        }
-        w = head(tails, place(to[w]));
-    }
-    false
+    first_on_way(tails, to, v, |w| w == sink || counts[w] != UNMARKED) == Some(sink)
 }
 
 // The tree of the nodes, which are stripped off it leaf by leaf: from each that it has a dart leads on towards the sink. Answers whether it has the source.
@@ -149,8 +147,7 @@ fn grow(
     sink: usize,
     to: &mut [u16; 1024],
 ) -> bool
-    requires { (length to.old ≡ 1024) × (nodes ≤ 1024) × (edges ≤ 512) × (source < 1024) × (sink < 1024) }
-    ensures { length to.new ≡ 1024 }
+    requires { (nodes ≤ 1024) × (edges ≤ 512) × (source < 1024) × (sink < 1024) }
 {
     let mut crossed = [0u8; 1024];
     mark_crossed(parents, faces, &mut crossed);
@@ -184,9 +181,9 @@ fn tightest(
 {
     let mut v = source;
     let mut best = place(to[source]);
-    for i in 0..1024usize {
+    for _ in 0..1024usize {
         if v == sink {
-            return best;
+            break;
         }
         let d = place(to[v]);
         best = tighter(slacks, d, best);
@@ -204,18 +201,17 @@ fn carry(
     by: u32,
     slacks: &mut [u32; 1024],
 )
-    requires { (length slacks.old ≡ 1024) × (source < 1024) }
-    ensures { length slacks.new ≡ 1024 }
+    requires { source < 1024 }
 {
     let mut v = source;
-    for i in 0..1024usize {
+    for _ in 0..1024usize {
         if v == sink {
             return;
         }
         let d = place(to[v]);
         let back = arrays::reverse(d);
-        slacks[d] = std::num::wrapping_sub_u32(slacks[d], by);
-        slacks[back] = std::num::wrapping_add_u32(slacks[back], by);
+        slacks[d] = slacks[d].wrapping_sub(by);
+        slacks[back] = slacks[back].wrapping_add(by);
         v = place(tails[back]);
     }
 }
@@ -224,27 +220,16 @@ fn carry(
 fn passes(tails: &[u16; 1024], to: &[u16; 1024], sink: usize, u: usize, v: usize) -> bool
     requires { v < 1024 }
 {
-    let mut w = v;
-    for i in 0..1024usize {
-        if w == u {
-            return true;
-        }
-        if w == sink {
-            return false;
-        }
-        w = head(tails, place(to[w]));
-    }
-    false
+    first_on_way(tails, to, v, |w| w == u || w == sink) == Some(u)
 }
 
 // From v to x the way is turned round: v goes on by the dart `by`, and each node of the way by the reverse of the dart that led to it.
 fn turn_round(tails: &[u16; 1024], v: usize, by: usize, x: usize, to: &mut [u16; 1024])
-    requires { (length to.old ≡ 1024) × (v < 1024) × (by < 1024) }
-    ensures { length to.new ≡ 1024 }
+    requires { (v < 1024) × (by < 1024) }
 {
     let mut w = v;
     let mut d = by;
-    for i in 0..1024usize {
+    for _ in 0..1024usize {
         let next = place(to[w]);
         to[w] = number(d);
         if w == x {
@@ -265,12 +250,12 @@ fn pivot(
     to: &mut [u16; 1024],
     parents: &mut [u16; 1024],
 ) -> bool
-    requires { (length to.old ≡ 1024) × (length parents.old ≡ 1024) × (d < 1024) }
-    ensures { (length to.new ≡ 1024) × (length parents.new ≡ 1024) }
+    requires { d < 1024 }
 {
     let x = place(tails[d]);
     let f = place(lefts[d]);
-    let old = arrays::wide(parents[f]);
+    // 1,024 is no parent: a number and no Option, as the search leaves it so in its array.
+    let old = usize::from(parents[f]);
     if 1024 <= old {
         return false;
     }
@@ -294,38 +279,20 @@ fn pivot(
 fn flag_ahead(tails: &[u16; 1024], to: &[u16; 1024], inside: &[u8; 1024], v: usize) -> u8
     requires { v < 1024 }
 {
-    let mut w = v;
-    for i in 0..1024usize {
-        if inside[w] != 2 {
-            return inside[w];
-        }
-        w = head(tails, place(to[w]));
-    }
-    0
+    first_on_way(tails, to, v, |w| inside[w] != 2).map_or(0, |w| inside[w])
 }
 
 // Gives this flag to each node on the way from v up to the first that has one.
 fn flag_way(tails: &[u16; 1024], to: &[u16; 1024], v: usize, flag: u8, inside: &mut [u8; 1024])
-    requires { (length inside.old ≡ 1024) × (v < 1024) }
-    ensures { length inside.new ≡ 1024 }
+    requires { v < 1024 }
 {
     let mut w = v;
-    for i in 0..1024usize {
+    for _ in 0..1024usize {
         if inside[w] != 2 {
             return;
         }
         inside[w] = flag;
         w = head(tails, place(to[w]));
-    }
-}
-
-// No node has a flag yet.
-fn unflag_all(inside: &mut [u8; 1024])
-    requires { length inside.old ≡ 1024 }
-    ensures { length inside.new ≡ 1024 }
-{
-    for v in 0..1024usize {
-        inside[v] = 2;
     }
 }
 
@@ -338,16 +305,13 @@ fn flag_beyond(
     x: usize,
     inside: &mut [u8; 1024],
 )
-    requires { (length inside.old ≡ 1024) × (nodes ≤ 1024) × (sink < 1024) × (x < 1024) }
-    ensures { length inside.new ≡ 1024 }
+    requires { (nodes ≤ 1024) × (sink < 1024) × (x < 1024) }
 {
-    unflag_all(&mut *inside);
+    // 2 is no flag yet: a number and no Option, as the array is the one that is lent to `propose`.
+    inside.fill(2);
     inside[sink] = 0;
     inside[x] = 1;
-    let mut next: usize = 0;
-    while next < nodes {
-        let v = next;
-        next += 1;
+    for v in 0..nodes {
         if inside[v] == 2 {
             let flag = flag_ahead(tails, to, &*inside, v);
             flag_way(tails, to, v, flag, &mut *inside);
@@ -365,15 +329,15 @@ fn raise(
     parents: &mut [u16; 1024],
     slacks: &mut [u32; 1024],
 ) -> usize
-    requires { (length to.old ≡ 1024) × (length parents.old ≡ 1024) × (length slacks.old ≡ 1024) × (source < 1024) }
-    ensures { (length to.new ≡ 1024) × (length parents.new ≡ 1024) × (result < 1024) }
+    requires { source < 1024 }
+    ensures { result < 1024 }
 {
     let mut d = tightest(tails, &*to, &*slacks, source, sink);
-    for i in 0..PIVOTS {
+    for _ in 0..PIVOTS {
         let by = slacks[d];
         carry(tails, &*to, source, sink, by, &mut *slacks);
         if !pivot(tails, lefts, sink, d, &mut *to, &mut *parents) {
-            return place(tails[d]);
+            break;
         }
         d = tightest(tails, &*to, &*slacks, source, sink);
     }
@@ -418,98 +382,86 @@ pub fn propose(
     flag_beyond(tails, &to, nodes, sink, x, inside);
 }
 
-// How far a set has spread: its cut, shifted by 2^31 so that a negative one is less, and where the list of its nodes and of those ahead ends.
-#[derive(Clone, Copy)]
-struct Grown {
-    total: u32,
+// The nodes of a set that spreads, and those next ahead of it, as they were found: of each a dart at it. There is room for 512: 512 edges join no more than 513
+// nodes, of which the sink is not listed.
+#[derive(Drop)]
+struct List {
+    darts: [u16; 512],
     end: usize,
 }
 
-// Flags no node.
-fn flag_none(inside: &mut [u8; 1024])
-    requires { length inside.old ≡ 1024 }
-    ensures { length inside.new ≡ 1024 }
-{
-    for v in 0..1024usize {
-        inside[v] = 0;
+impl List {
+    fn push(&mut self, d: usize)
+        requires { d < 1024 }
+    {
+        self.darts[self.end % 512] = number(d);
+        self.end = self.end.wrapping_add(1);
+    }
+
+    fn at(&self, i: usize) -> usize
+        ensures { result < 1024 }
+    {
+        place(self.darts[i % 512])
     }
 }
 
-// Lists the node v, to which the reverse of `back` leads, unless it is listed. Answers the new end of the list. There is room for 512: 512 edges join no more
-// than 513 nodes, of which the sink is not listed.
-fn list_ahead(
-    back: usize,
-    v: usize,
-    inside: &mut [u8; 1024],
-    list: &mut [u16; 512],
-    end: usize,
-) -> usize
-    requires { (length inside.old ≡ 1024) × (length list.old ≡ 512) × (back < 1024) × (v < 1024) }
-    ensures { (length inside.new ≡ 1024) × (length list.new ≡ 512) }
+// Lists the node v, which the dart d is at, unless it is listed.
+fn list_ahead(d: usize, v: usize, inside: &mut [u8; 1024], list: &mut List)
+    requires { (d < 1024) × (v < 1024) }
 {
-    if inside[v] != 0 {
-        return end;
+    if inside[v] == 0 {
+        inside[v] = 2;
+        list.push(d);
     }
-    inside[v] = 2;
-    list[end % 512] = number(back);
-    std::num::wrapping_add_usize(end, 1)
 }
 
-// One dart d at the node v that joins the set: what it can carry to a node outside is added, what comes from a node inside no longer leaves.
+// One dart d at the node v that joins the set: what it can carry to a node outside is added to the cut, what comes from a node inside no longer leaves.
 fn cross(
     tails: &[u16; 1024],
     capacities: &[i32; 1024],
     v: usize,
     d: usize,
     inside: &mut [u8; 1024],
-    list: &mut [u16; 512],
-    grown: Grown,
-) -> Grown
-    requires { (length inside.old ≡ 1024) × (length list.old ≡ 512) × (d < 1024) }
-    ensures { (length inside.new ≡ 1024) × (length list.new ≡ 512) }
+    list: &mut List,
+    cut: u32,
+) -> u32
+    requires { d < 1024 }
 {
     let back = arrays::reverse(d);
     let u = place(tails[back]);
     if inside[u] != 1 {
-        return Grown {
-            total: std::num::wrapping_add_u32(grown.total, signed::to_bits(capacities[d])),
-            end: list_ahead(back, u, inside, list, grown.end),
-        };
+        list_ahead(back, u, inside, list);
+        return cut.wrapping_add(capacities[d].cast_unsigned());
     }
     if u == v {
-        return grown;
+        return cut;
     }
-    Grown {
-        total: std::num::wrapping_sub_u32(grown.total, signed::to_bits(capacities[back])),
-        end: grown.end,
-    }
+    cut.wrapping_sub(capacities[back].cast_unsigned())
 }
 
-// Takes the node of the dart `start` into the set, dart by dart round it.
+// Takes the node of the dart `start` into the set, dart by dart round it, and answers the cut of the set then.
 fn take_node(
     tails: &[u16; 1024],
     rotations: &[u16; 1024],
     capacities: &[i32; 1024],
     start: usize,
     inside: &mut [u8; 1024],
-    list: &mut [u16; 512],
-    grown: Grown,
-) -> Grown
-    requires { (length inside.old ≡ 1024) × (length list.old ≡ 512) × (start < 1024) }
-    ensures { (length inside.new ≡ 1024) × (length list.new ≡ 512) }
+    list: &mut List,
+    cut: u32,
+) -> u32
+    requires { start < 1024 }
 {
     let v = place(tails[start]);
     inside[v] = 1;
     let mut d = start;
-    let mut wider = grown;
-    let mut left: usize = 1024;
-    while 0 < left {
+    let mut wider = cut;
+    // Counted down: a dart takes one instruction less so.
+    for _ in (0..1024usize).rev() {
         wider = cross(tails, capacities, v, d, &mut *inside, &mut *list, wider);
         d = place(rotations[d]);
         if d == start {
             return wider;
         }
-        left -= 1;
     }
     wider
 }
@@ -517,123 +469,66 @@ fn take_node(
 // Gives this flag to the nodes that are listed at these places.
 fn flag_listed(
     tails: &[u16; 1024],
-    list: &[u16; 512],
+    list: &List,
     from: usize,
     end: usize,
     flag: u8,
     inside: &mut [u8; 1024],
-)
-    requires { length inside.old ≡ 1024 }
-    ensures { length inside.new ≡ 1024 }
-{
+) {
     for i in from..end {
-        inside[place(tails[place(list[i % 512])])] = flag;
+        inside[place(tails[list.at(i)])] = flag;
     }
 }
 
 // Leaves the flags of the first listed nodes alone, up to this size: by flagging them anew where they are few, else by taking the others' flags away.
-fn keep_first(
-    tails: &[u16; 1024],
-    list: &[u16; 512],
-    size: usize,
-    end: usize,
-    inside: &mut [u8; 1024],
-)
-    requires { length inside.old ≡ 1024 }
-    ensures { length inside.new ≡ 1024 }
-{
-    if size < end / 2 {
-        flag_none(&mut *inside);
+fn keep_first(tails: &[u16; 1024], list: &List, size: usize, inside: &mut [u8; 1024]) {
+    if size < list.end / 2 {
+        inside.fill(0);
         flag_listed(tails, list, 0, size, 1, inside);
         return;
     }
-    flag_listed(tails, list, size, end, 0, inside);
+    flag_listed(tails, list, size, list.end, 0, inside);
 }
 
-// The least cut so far: its total, and how many of the listed nodes are in its set.
-#[derive(Clone, Copy)]
-struct Best {
-    total: u32,
-    size: usize,
-}
-
-// Where the list ended, with the least cut.
-#[derive(Clone, Copy)]
-struct Found {
-    best: Best,
-    end: usize,
-}
-
-fn better(best: Best, total: u32, size: usize) -> Best {
-    if total < best.total {
-        return Best {
-            total: total,
-            size: size,
-        };
-    }
-    best
-}
-
-// Spreads a set from the node of `first`, node by node as they are listed: dart by dart round each, then to the next.
+// Spreads a set from the nodes that are listed, node by node: dart by dart round each, then to the next. Answers how many are in the set of the least cut. A
+// cut is shifted by 2^31, so that a negative one is less.
 fn spread_all(
     tails: &[u16; 1024],
     rotations: &[u16; 1024],
     capacities: &[i32; 1024],
-    first: usize,
     inside: &mut [u8; 1024],
-    list: &mut [u16; 512],
-) -> Found
-    requires { (length inside.old ≡ 1024) × (length list.old ≡ 512) × (first < 1024) }
-    ensures { (length inside.new ≡ 1024) × (length list.new ≡ 512) }
-{
-    list[0] = number(first);
-    let mut grown = Grown {
-        total: 2147483648,
-        end: 1,
-    };
-    let mut best = Best {
-        total: 4294967295,
-        size: 0,
-    };
+    list: &mut List,
+) -> usize {
+    let mut cut = 1 << 31;
+    let mut least = u32::MAX;
+    let mut size = 0;
     for next in 0..512usize {
-        if grown.end <= next {
-            return Found {
-                best: best,
-                end: grown.end,
-            };
+        if list.end <= next {
+            break;
         }
-        let start = place(list[next]);
-        grown = take_node(
+        let start = list.at(next);
+        cut = take_node(
             tails,
             rotations,
             capacities,
             start,
             &mut *inside,
             &mut *list,
-            grown,
+            cut,
         );
-        best = better(best, grown.total, next + 1);
+        if cut < least {
+            least = cut;
+            size = next + 1;
+        }
     }
-    Found {
-        best: best,
-        end: grown.end,
-    }
+    size
 }
 
 // Whether two nodes at least are next ahead of the first listed nodes, up to this size, which have flags: whether the second listed behind them was listed by
 // one of them.
-fn has_two_ahead(
-    tails: &[u16; 1024],
-    list: &[u16; 512],
-    size: usize,
-    end: usize,
-    inside: &[u8; 1024],
-) -> bool {
-    let second = std::num::wrapping_add_usize(size, 1);
-    if end <= second {
-        return false;
-    }
-    inside[head(tails, place(list[second % 512]))] == 1
+fn has_two_ahead(tails: &[u16; 1024], list: &List, size: usize, inside: &[u8; 1024]) -> bool {
+    let second = size.wrapping_add(1);
+    second < list.end && inside[head(tails, list.at(second))] == 1
 }
 
 // Flags the nodes of the least cut among the sets that spread from the source, nearest nodes first, up to all but the sink; `start` is a dart at the source.
@@ -649,15 +544,15 @@ pub fn spread(
     requires { (length inside.old ≡ 1024) × (sink < 1024) × (start < 1024) }
     ensures { length inside.new ≡ 1024 }
 {
-    flag_none(&mut *inside);
+    inside.fill(0);
     inside[sink] = 2;
-    let mut list = [0u16; 512];
-    let spread = spread_all(tails, rotations, capacities, start, &mut *inside, &mut list);
-    keep_first(tails, &list, spread.best.size, spread.end, &mut *inside);
+    let mut list = List {
+        darts: [0u16; 512],
+        end: 0,
+    };
+    list.push(start);
+    let size = spread_all(tails, rotations, capacities, &mut *inside, &mut list);
+    keep_first(tails, &list, size, &mut *inside);
     inside[sink] = 0;
-    let size = spread.best.size;
-    if size < 2 {
-        return true;
-    }
-    !has_two_ahead(tails, &list, size, spread.end, &*inside)
+    size < 2 || !has_two_ahead(tails, &list, size, &*inside)
 }

@@ -10,7 +10,9 @@ use lib.Arith.{digits_div, digits_mod}
 use Rattle.integers.proofs.Tests.{eqb_true, eqb_false, ltb_true, ltb_false, ltb_lt}
 use Rattle.maps.specs.Dart.{rev}
 use Rattle.maps.proofs.Darts.{rev_even, rev_odd, by_edge}
-use Rattle.practice.specs.Side.{Side, north, east, south, west, next}
+use Rattle.practice.specs.Side.{next}
+use Rattle.practice.specs.declared.Side.{Side}
+use Rattle.practice.specs.declared.Side.TheVariants.{North, East, South, West}
 use Rattle.practice.specs.Grid.{placed, across, grid_edges, beginning, ending, place_of, present, dart_at, node_at, rotation_at, grid_tail, grid_rotation}
 use Rattle.practice.proofs.Sides.{having}
 
@@ -67,22 +69,22 @@ module _ (R C : ℕ) where
 
   -- ── the edge east of row r and column c, and the one south of it ──
   module _ (r c : ℕ) where
-    pub begins_east : r < R → c < C - 1 → beginning R C (r * (C - 1) + c) ≡ placed r c east
+    pub begins_east : r < R → c < C - 1 → beginning R C (r * (C - 1) + c) ≡ placed r c East
     unfolding beginning
     begins_east lr lc = rw (ltb_true (r * (C - 1) + c) (R * (C - 1)) (in_rows (C - 1) R r c lr lc), digits_div r lc, digits_mod r lc)
 
-    pub ends_west : r < R → c < C - 1 → ending R C (r * (C - 1) + c) ≡ placed r (c + 1) west
+    pub ends_west : r < R → c < C - 1 → ending R C (r * (C - 1) + c) ≡ placed r (c + 1) West
     unfolding ending
     ends_west lr lc = rw (ltb_true (r * (C - 1) + c) (R * (C - 1)) (in_rows (C - 1) R r c lr lc), digits_div r lc, digits_mod r lc)
 
     rest : R * (C - 1) + (r * C + c) - R * (C - 1) ≡ r * C + c
     rest = omega arith
 
-    pub begins_south : c < C → beginning R C (across R C + (r * C + c)) ≡ placed r c south
+    pub begins_south : c < C → beginning R C (across R C + (r * C + c)) ≡ placed r c South
     unfolding beginning
     begins_south lc = rw (ltb_false (R * (C - 1) + (r * C + c)) (R * (C - 1)) (omega arith), rest, digits_div r lc, digits_mod r lc)
 
-    pub ends_north : c < C → ending R C (across R C + (r * C + c)) ≡ placed (r + 1) c north
+    pub ends_north : c < C → ending R C (across R C + (r * C + c)) ≡ placed (r + 1) c North
     unfolding ending
     ends_north lc = rw (ltb_false (R * (C - 1) + (r * C + c)) (R * (C - 1)) (omega arith), rest, digits_div r lc, digits_mod r lc)
 
@@ -91,32 +93,32 @@ module _ (R C : ℕ) where
   present_having r c = fun_ext go
     where
       go : (s : Side) → present R C r c s ≡ having (ltb 0 r) (ltb (c + 1) C) (ltb (r + 1) R) (ltb 0 c) s
-      go north = refl
-      go east = refl
-      go south = refl
-      go west = refl
+      go North = refl
+      go East = refl
+      go South = refl
+      go West = refl
 
   -- ── the dart that leaves a node on a side ──
   module _ (r c : ℕ) (r_in : r < R) (c_in : c < C) where
     pub place_at : (s : Side) → present R C r c s ≡ true → place_of R C (dart_at R C r c s) ≡ placed r c s
     unfolding present dart_at
-    place_at north h =
+    place_at North h =
         let l : 0 < r = ltb_lt 0 r h in
-        place_odd (across R C + ((r - 1) * C + c)) ∙ ends_north (r - 1) c c_in ∙ ap (λ x. placed x c north) (one_more r l)
-    place_at east h =
+        place_odd (across R C + ((r - 1) * C + c)) ∙ ends_north (r - 1) c c_in ∙ ap (λ x. placed x c North) (one_more r l)
+    place_at East h =
         let l : c + 1 < C = ltb_lt (c + 1) C h in
         place_even (r * (C - 1) + c) ∙ begins_east r c r_in (omega arith)
-    place_at south h = place_even (across R C + (r * C + c)) ∙ begins_south r c c_in
-    place_at west h =
+    place_at South h = place_even (across R C + (r * C + c)) ∙ begins_south r c c_in
+    place_at West h =
         let l : 0 < c = ltb_lt 0 c h in
-        place_odd (r * (C - 1) + (c - 1)) ∙ ends_west r (c - 1) r_in (omega arith) ∙ ap (λ x. placed r x west) (one_more c l)
+        place_odd (r * (C - 1) + (c - 1)) ∙ ends_west r (c - 1) r_in (omega arith) ∙ ap (λ x. placed r x West) (one_more c l)
 
     pub dart_in : (s : Side) → present R C r c s ≡ true → dart_at R C r c s < 2 * grid_edges R C
     unfolding present dart_at
-    dart_in north h = let l : 0 < r = ltb_lt 0 r h in omega (arith, in_rows C (R - 1) (r - 1) c (omega arith) c_in)
-    dart_in east h = let l : c + 1 < C = ltb_lt (c + 1) C h in omega (arith, in_rows (C - 1) R r c r_in (omega arith))
-    dart_in south h = let l : r + 1 < R = ltb_lt (r + 1) R h in omega (arith, in_rows C (R - 1) r c (omega arith) c_in)
-    dart_in west h = let l : 0 < c = ltb_lt 0 c h in omega (arith, in_rows (C - 1) R r (c - 1) r_in (omega arith))
+    dart_in North h = let l : 0 < r = ltb_lt 0 r h in omega (arith, in_rows C (R - 1) (r - 1) c (omega arith) c_in)
+    dart_in East h = let l : c + 1 < C = ltb_lt (c + 1) C h in omega (arith, in_rows (C - 1) R r c r_in (omega arith))
+    dart_in South h = let l : r + 1 < R = ltb_lt (r + 1) R h in omega (arith, in_rows C (R - 1) r c (omega arith) c_in)
+    dart_in West h = let l : 0 < c = ltb_lt 0 c h in omega (arith, in_rows (C - 1) R r (c - 1) r_in (omega arith))
 
     pub tail_at : (s : Side) → present R C r c s ≡ true → grid_tail R C (dart_at R C r c s) ≡ r * C + c
     unfolding grid_tail
@@ -131,19 +133,19 @@ module _ (R C : ℕ) where
         ∙ ap (rotation_at R C) (place_at s h)
 
     -- its reverse leaves the neighbour on the other side
-    pub rev_east : rev (dart_at R C r c east) ≡ dart_at R C r (c + 1) west
+    pub rev_east : rev (dart_at R C r c East) ≡ dart_at R C r (c + 1) West
     unfolding dart_at
     rev_east = rev_even (r * (C - 1) + c) ∙ ap (λ x. 2 * (r * (C - 1) + x) + 1) (sym (one_less c))
 
-    pub rev_west : rev (dart_at R C r c west) ≡ dart_at R C r (c - 1) east
+    pub rev_west : rev (dart_at R C r c West) ≡ dart_at R C r (c - 1) East
     unfolding dart_at
     rev_west = rev_odd (r * (C - 1) + (c - 1))
 
-    pub rev_south : rev (dart_at R C r c south) ≡ dart_at R C (r + 1) c north
+    pub rev_south : rev (dart_at R C r c South) ≡ dart_at R C (r + 1) c North
     unfolding dart_at
     rev_south = rev_even (across R C + (r * C + c)) ∙ ap (λ x. 2 * (across R C + (x * C + c)) + 1) (sym (one_less r))
 
-    pub rev_north : rev (dart_at R C r c north) ≡ dart_at R C (r - 1) c south
+    pub rev_north : rev (dart_at R C r c North) ≡ dart_at R C (r - 1) c South
     unfolding dart_at
     rev_north = rev_odd (across R C + ((r - 1) * C + c))
 
@@ -166,7 +168,7 @@ module _ (R C : ℕ) where
         record {
           r = e / (C - 1);
           c = e % (C - 1);
-          s = east;
+          s = East;
           r_in = q.0;
           c_in = omega (arith, q.1);
           here = ltb_true (e % (C - 1) + 1) C (omega (arith, q.1));
@@ -175,7 +177,7 @@ module _ (R C : ℕ) where
         record {
           r = e / (C - 1);
           c = e % (C - 1) + 1;
-          s = west;
+          s = West;
           r_in = q.0;
           c_in = omega (arith, q.1);
           here = ltb_true 0 (e % (C - 1) + 1) (omega arith);
@@ -191,7 +193,7 @@ module _ (R C : ℕ) where
         record {
           r = e / C;
           c = e % C;
-          s = south;
+          s = South;
           r_in = omega (arith, q.0);
           c_in = q.1;
           here = ltb_true (e / C + 1) R (omega (arith, q.0));
@@ -200,7 +202,7 @@ module _ (R C : ℕ) where
         record {
           r = e / C + 1;
           c = e % C;
-          s = north;
+          s = North;
           r_in = omega (arith, q.0);
           c_in = q.1;
           here = ltb_true 0 (e / C + 1) (omega arith);

@@ -17,7 +17,9 @@ use Rattle.maps.proofs.Darts.{rev_in, rev_rev}
 use Rattle.maps.proofs.Walks.{connected_components}
 use Rattle.maps.proofs.Planar.{euler_at_most}
 use Rattle.maps.proofs.Parts.{flat_of}
-use Rattle.practice.specs.Side.{Side, north, east, south, west, turn, next}
+use Rattle.practice.specs.Side.{turn, next}
+use Rattle.practice.specs.declared.Side.{Side}
+use Rattle.practice.specs.declared.Side.TheVariants.{North, East, South, West}
 use Rattle.practice.specs.Grid.{place_of, present, dart_at, grid_tail, grid_rotation, grid_map}
 use Rattle.practice.proofs.Labels.{connected_down, faces_at_least}
 use Rattle.practice.proofs.Sides.{back, corner, corners}
@@ -58,21 +60,21 @@ module _ (R C : ℕ) where
 
           go : Dec (0 < c) → (d : ℕ) × (d < darts G) × (grid_tail R C d ≡ v) × (grid_tail R C (rev d) < v)
           go (yes h) =
-              let p : present R C r c west ≡ true = ltb_true 0 c h in
-              let q : present R C r (c - 1) east ≡ true = ltb_true (c - 1 + 1) C (omega (arith, c_in)) in (
-                dart_at R C r c west,
-                dart_in R C r c r_in c_in west p,
-                tail_at R C r c r_in c_in west p ∙ whole,
-                rw (rev_west R C r c r_in c_in, tail_at R C r (c - 1) r_in (omega (arith, c_in)) east q) (omega (arith, whole)),
+              let p : present R C r c West ≡ true = ltb_true 0 c h in
+              let q : present R C r (c - 1) East ≡ true = ltb_true (c - 1 + 1) C (omega (arith, c_in)) in (
+                dart_at R C r c West,
+                dart_in R C r c r_in c_in West p,
+                tail_at R C r c r_in c_in West p ∙ whole,
+                rw (rev_west R C r c r_in c_in, tail_at R C r (c - 1) r_in (omega (arith, c_in)) East q) (omega (arith, whole)),
               )
           go (no h) =
               let up : 0 < r = high (dec_lt 0 r) in
-              let p : present R C r c north ≡ true = ltb_true 0 r up in
-              let q : present R C (r - 1) c south ≡ true = ltb_true (r - 1 + 1) R (omega (arith, r_in)) in (
-                dart_at R C r c north,
-                dart_in R C r c r_in c_in north p,
-                tail_at R C r c r_in c_in north p ∙ whole,
-                rw (rev_north R C r c r_in c_in, tail_at R C (r - 1) c (omega (arith, r_in)) c_in south q)
+              let p : present R C r c North ≡ true = ltb_true 0 r up in
+              let q : present R C (r - 1) c South ≡ true = ltb_true (r - 1 + 1) R (omega (arith, r_in)) in (
+                dart_at R C r c North,
+                dart_in R C r c r_in c_in North p,
+                tail_at R C r c r_in c_in North p ∙ whole,
+                rw (rev_north R C r c r_in c_in, tail_at R C (r - 1) c (omega (arith, r_in)) c_in South q)
                     (omega (arith, whole, c_in, row_above C r up)),
               )
             where
@@ -86,10 +88,10 @@ module _ (R C : ℕ) where
   -- ── the label of a dart ──
   -- the cell at the corner between a side and the next one, counted from 1
   unfoldable cell : ℕ → ℕ → Side → ℕ
-  cell r c north = (r - 1) * (C - 1) + c + 1
-  cell r c east = r * (C - 1) + c + 1
-  cell r c south = r * (C - 1) + (c - 1) + 1
-  cell r c west = (r - 1) * (C - 1) + (c - 1) + 1
+  cell r c North = (r - 1) * (C - 1) + c + 1
+  cell r c East = r * (C - 1) + c + 1
+  cell r c South = r * (C - 1) + (c - 1) + 1
+  cell r c West = (r - 1) * (C - 1) + (c - 1) + 1
 
   corner_at : ℕ → ℕ → Side → ℕ
   corner_at r c x = corner (present R C r c) (cell r c) x
@@ -104,27 +106,27 @@ module _ (R C : ℕ) where
   -- the corner before a dart's reverse is the corner behind the dart
   label_rev : (r c : ℕ) → r < R → c < C → (s : Side) → present R C r c s ≡ true → label (rev (dart_at R C r c s)) ≡ corner_at r c s
   unfolding present cell corner_at back turn
-  label_rev r c r_in c_in east h =
+  label_rev r c r_in c_in East h =
       let l : c + 1 < C = ltb_lt (c + 1) C h in
       ap label (rev_east R C r c r_in c_in)
-      ∙ label_at r (c + 1) r_in l west (ltb_true 0 (c + 1) (omega arith))
+      ∙ label_at r (c + 1) r_in l West (ltb_true 0 (c + 1) (omega arith))
       ∙ rw (h, ltb_true 0 (c + 1) (omega arith), one_less c) (and_one (ltb (r + 1) R) (r * (C - 1) + c + 1))
-  label_rev r c r_in c_in west h =
+  label_rev r c r_in c_in West h =
       let l : 0 < c = ltb_lt 0 c h in
       let m : c - 1 + 1 < C = omega arith in
       ap label (rev_west R C r c r_in c_in)
-      ∙ label_at r (c - 1) r_in (omega arith) east (ltb_true (c - 1 + 1) C m)
+      ∙ label_at r (c - 1) r_in (omega arith) East (ltb_true (c - 1 + 1) C m)
       ∙ rw (h, ltb_true (c - 1 + 1) C m) (and_one (ltb 0 r) ((r - 1) * (C - 1) + (c - 1) + 1))
-  label_rev r c r_in c_in south h =
+  label_rev r c r_in c_in South h =
       let l : r + 1 < R = ltb_lt (r + 1) R h in
       ap label (rev_south R C r c r_in c_in)
-      ∙ label_at (r + 1) c l c_in north (ltb_true 0 (r + 1) (omega arith))
+      ∙ label_at (r + 1) c l c_in North (ltb_true 0 (r + 1) (omega arith))
       ∙ rw (h, ltb_true 0 (r + 1) (omega arith), one_less r) (and_one (ltb 0 c) (r * (C - 1) + (c - 1) + 1))
-  label_rev r c r_in c_in north h =
+  label_rev r c r_in c_in North h =
       let l : 0 < r = ltb_lt 0 r h in
       let m : r - 1 + 1 < R = omega arith in
       ap label (rev_north R C r c r_in c_in)
-      ∙ label_at (r - 1) c (omega arith) c_in south (ltb_true (r - 1 + 1) R m)
+      ∙ label_at (r - 1) c (omega arith) c_in South (ltb_true (r - 1 + 1) R m)
       ∙ rw (h, ltb_true (r - 1 + 1) R m) (and_one (ltb (c + 1) C) ((r - 1) * (C - 1) + c + 1))
 
   -- the corner before the next dart is the corner behind this one
@@ -149,21 +151,21 @@ module _ (R C : ℕ) where
 
   -- each label is some dart's: 0 is that of dart 0, and a cell's is that of the dart that leaves its first corner southwards
   some_dart : ℕ → ℕ
-  some_dart zero = dart_at R C 0 0 east
-  some_dart (suc f) = dart_at R C (f / (C - 1)) (f % (C - 1)) south
+  some_dart zero = dart_at R C 0 0 East
+  some_dart (suc f) = dart_at R C (f / (C - 1)) (f % (C - 1)) South
 
   has_label : 2 ≤ R → 2 ≤ C → (f : ℕ) → f < suc ((R - 1) * (C - 1)) → (some_dart f < darts G) × (label (some_dart f) ≡ f)
   unfolding some_dart present cell corner_at back turn
   has_label hR hC zero l =
-      let h : present R C 0 0 east ≡ true = ltb_true (0 + 1) C (omega arith) in
-      (dart_in R C 0 0 (omega arith) (omega arith) east h, label_at 0 0 (omega arith) (omega arith) east h)
+      let h : present R C 0 0 East ≡ true = ltb_true (0 + 1) C (omega arith) in
+      (dart_in R C 0 0 (omega arith) (omega arith) East h, label_at 0 0 (omega arith) (omega arith) East h)
   has_label hR hC (suc f) l =
       let q = row_of (C - 1) (R - 1) f (omega arith) in
       let n : f % (C - 1) + 1 < C = omega (arith, q.1) in
       let m : f / (C - 1) + 1 < R = omega (arith, q.0) in
-      let h : present R C (f / (C - 1)) (f % (C - 1)) south ≡ true = ltb_true (f / (C - 1) + 1) R m in (
-        dart_in R C (f / (C - 1)) (f % (C - 1)) (omega arith) (omega arith) south h,
-        label_at (f / (C - 1)) (f % (C - 1)) (omega arith) (omega arith) south h
+      let h : present R C (f / (C - 1)) (f % (C - 1)) South ≡ true = ltb_true (f / (C - 1) + 1) R m in (
+        dart_in R C (f / (C - 1)) (f % (C - 1)) (omega arith) (omega arith) South h,
+        label_at (f / (C - 1)) (f % (C - 1)) (omega arith) (omega arith) South h
             ∙ rw (ltb_true (f % (C - 1) + 1) C n, h) (omega (arith, div-add-mod' f (C - 1))),
       )
 

@@ -12,7 +12,9 @@ use Rattle.maps.specs.Orbit.{Orbit, iter}
 use Rattle.maps.specs.Map.{Map, darts}
 use Rattle.maps.specs.Check.{InRange, Sound}
 use Rattle.maps.proofs.Orbits.{iter_zero, iter_suc}
-use Rattle.practice.specs.Side.{Side, north, south, next}
+use Rattle.practice.specs.Side.{next}
+use Rattle.practice.specs.declared.Side.{Side}
+use Rattle.practice.specs.declared.Side.TheVariants.{North, South}
 use Rattle.practice.specs.Grid.{place_of, present, dart_at, grid_tail, grid_rotation, grid_map}
 use Rattle.practice.proofs.Sides.{next_present, next_apart, one_round, turns}
 use Rattle.practice.proofs.Coordinates.{View, view, in_rows, row_of, present_having, place_at, dart_in, tail_at, rotation-at}
@@ -138,5 +140,5 @@ module _ (R C : ℕ) where
           )
 
           go : Dec (v / C + 1 < R) → (d : ℕ) × (d < darts G) × (grid_tail R C d ≡ v)
-          go (yes h) = by south (ltb_true (v / C + 1) R h)
-          go (no h) = by north (ltb_true 0 (v / C) (omega arith))
+          go (yes h) = by South (ltb_true (v / C + 1) R h)
+          go (no h) = by North (ltb_true 0 (v / C) (omega arith))

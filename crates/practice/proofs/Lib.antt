@@ -1,6 +1,5 @@
 -- Practice sheets: a grid is sound and flat, so the sheet of every grid is accepted.
 pub mod Sides
-pub mod Numbered
 pub mod Coordinates
 pub mod Labels
 pub mod GridSound

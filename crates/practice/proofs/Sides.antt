@@ -5,36 +5,44 @@ use mathlib.Core.Bool.{Bool, true, false, cond, not, ◌&&◌, ◌||◌}
 use Prim.Native.Nat.{ℕ, zero, suc}
 use lib.Dec.{eqb}
 use Rattle.integers.proofs.Tests.{and_both, implied, eqb_eq, eqb_true, not_true}
-use Rattle.practice.specs.Side.{Side, north, east, south, west, turn, next}
-use Rattle.practice.specs.inner.Numbered.{side}
+use Rattle.practice.specs.Side.{turn, next}
+use Rattle.practice.specs.declared.Side.{Side}
+use Rattle.practice.specs.declared.Side.TheVariants.{North, East, South, West}
 
 -- the sides that four tests say are present
 unfoldable pub having : Bool → Bool → Bool → Bool → Side → Bool
-having n e s w north = n
-having n e s w east = e
-having n e s w south = s
-having n e s w west = w
+having n e s w North = n
+having n e s w East = e
+having n e s w South = s
+having n e s w West = w
 
 -- the next side the other way round
 unfoldable pub back : Side → Side
-back north = west
-back east = north
-back south = east
-back west = south
+back North = West
+back East = North
+back South = East
+back West = South
 
 -- ── sides told apart by their number ──
 unfoldable index : Side → ℕ
-index north = 0
-index east = 1
-index south = 2
-index west = 3
+index North = 0
+index East = 1
+index South = 2
+index West = 3
+
+-- the side of a number
+unfoldable side : ℕ → Side
+side zero = North
+side (suc zero) = East
+side (suc (suc zero)) = South
+side (suc (suc (suc n))) = West
 
 side_index : (x : Side) → side (index x) ≡ x
 unfolding side index
-side_index north = refl
-side_index east = refl
-side_index south = refl
-side_index west = refl
+side_index North = refl
+side_index East = refl
+side_index South = refl
+side_index West = refl
 
 unfoldable same : Side → Side → Bool
 same x y = eqb (index x) (index y)
@@ -57,7 +65,7 @@ unfoldable both : (Bool → Bool) → Bool
 both t = t true && t false
 
 unfoldable each : (Side → Bool) → Bool
-each t = t north && (t east && (t south && t west))
+each t = t North && (t East && (t South && t West))
 
 at_bool : (t : Bool → Bool) → both t ≡ true → (b : Bool) → t b ≡ true
 unfolding both
@@ -66,10 +74,10 @@ at_bool t h false = (and_both (t true) (t false) h).1
 
 at_side : (t : Side → Bool) → each t ≡ true → (s : Side) → t s ≡ true
 unfolding each
-at_side t h north = (and_both (t north) (t east && (t south && t west)) h).0
-at_side t h east = (and_both (t east) (t south && t west) (and_both (t north) (t east && (t south && t west)) h).1).0
-at_side t h south = (and_both (t south) (t west) (and_both (t east) (t south && t west) (and_both (t north) (t east && (t south && t west)) h).1).1).0
-at_side t h west = (and_both (t south) (t west) (and_both (t east) (t south && t west) (and_both (t north) (t east && (t south && t west)) h).1).1).1
+at_side t h North = (and_both (t North) (t East && (t South && t West)) h).0
+at_side t h East = (and_both (t East) (t South && t West) (and_both (t North) (t East && (t South && t West)) h).1).0
+at_side t h South = (and_both (t South) (t West) (and_both (t East) (t South && t West) (and_both (t North) (t East && (t South && t West)) h).1).1).0
+at_side t h West = (and_both (t South) (t West) (and_both (t East) (t South && t West) (and_both (t North) (t East && (t South && t West)) h).1).1).1
 
 unfoldable everywhere : ((Side → Bool) → Side → Side → Bool) → Bool
 everywhere t = both (λ n. both (λ e. both (λ s. both (λ w. each (λ x. each (λ y. t (having n e s w) x y))))))

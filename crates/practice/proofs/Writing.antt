@@ -22,7 +22,7 @@ use Rattle.records.proofs.Places.{front_length, edge_length}
 use Rattle.sheets.proofs.Placing.{Placed, placed_first}
 use Rattle.sheets.proofs.PlacedRecords.{placed_16}
 use Rattle.practice.specs.Grid.{placed, grid_edges, beginning, ending, place_of, node_at, rotation_at, grid_tail, grid_rotation}
-use Rattle.practice.specs.inner.Numbered.{side}
+use Rattle.practice.specs.declared.Side.TheVariants.{North, East, South, West}
 use Rattle.practice.specs.Seed.{forward_of}
 use Rattle.practice.specs.Practice.{grid_drawing, practice_length, practice_checks}
 use Rattle.practice.proofs.Coordinates.{place_even, place_odd}
@@ -76,22 +76,22 @@ module _ (𝓓 : Drawing) (old : List ℕ) where
   unfolding encode_plain
   front_end e l h so_far = so_far ∙ ap (λ n. (plain_head 𝓓 ++ encode_edges 𝓓 n) ++ drop (edge_after (record_length 1) n) old) h
 
--- ── where an edge begins and ends, with the sides by number ──
+-- ── where an edge begins and ends ──
 module _ (R C e : ℕ) where
-  pub begins_across : e < R * (C - 1) → beginning R C e ≡ placed (e / (C - 1)) (e % (C - 1)) (side 1)
-  unfolding beginning side
+  pub begins_across : e < R * (C - 1) → beginning R C e ≡ placed (e / (C - 1)) (e % (C - 1)) East
+  unfolding beginning
   begins_across l = rw (ltb_true e (R * (C - 1)) l)
 
-  pub ends_across : e < R * (C - 1) → ending R C e ≡ placed (e / (C - 1)) (e % (C - 1) + 1) (side 3)
-  unfolding ending side
+  pub ends_across : e < R * (C - 1) → ending R C e ≡ placed (e / (C - 1)) (e % (C - 1) + 1) West
+  unfolding ending
   ends_across l = rw (ltb_true e (R * (C - 1)) l)
 
-  pub begins_down : R * (C - 1) ≤ e → beginning R C e ≡ placed ((e - R * (C - 1)) / C) ((e - R * (C - 1)) % C) (side 2)
-  unfolding beginning side
+  pub begins_down : R * (C - 1) ≤ e → beginning R C e ≡ placed ((e - R * (C - 1)) / C) ((e - R * (C - 1)) % C) South
+  unfolding beginning
   begins_down l = rw (ltb_false e (R * (C - 1)) l)
 
-  pub ends_down : R * (C - 1) ≤ e → ending R C e ≡ placed ((e - R * (C - 1)) / C + 1) ((e - R * (C - 1)) % C) (side 0)
-  unfolding ending side
+  pub ends_down : R * (C - 1) ≤ e → ending R C e ≡ placed ((e - R * (C - 1)) / C + 1) ((e - R * (C - 1)) % C) North
+  unfolding ending
   ends_down l = rw (ltb_false e (R * (C - 1)) l)
 
 -- ── the record of an edge of the grid ──
@@ -153,3 +153,6 @@ module _ (rows columns seed : ℕ) (out : List ℕ) where
       let c = not_left (not_right h) in
       let s = not_right (not_right h) in
       (omega (arith, not_left r), omega (arith, not_right r), omega (arith, not_left c), omega (arith, not_right c), omega arith)
+
+-- what the ways out stand on: the refusals in order, what 23 leaves, and the head
+pub ruleset practice_steps = (practice_refused, practice_short, made_sizes, head_kept)

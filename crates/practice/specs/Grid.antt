@@ -2,7 +2,9 @@
 -- bottom, again row by row." Rows and columns are counted from 0, from the top and from the left. A channel is an edge here, and a turn a rotation.
 use Rattle.std.specs.Prelude.{Bool, cond, ℕ, ◌+◌, ◌*◌, ◌-◌, ◌/◌, ◌%◌, eqb, ltb}
 use Rattle.maps.specs.Map.{Map}
-use Rattle.practice.specs.Side.{Side, north, east, south, west, next}
+use Rattle.practice.specs.Side.{next}
+use Rattle.practice.specs.declared.Side.{Side}
+use Rattle.practice.specs.declared.Side.TheVariants.{North, East, South, West}
 
 -- a node, by its row and column, and one side of it
 pub record Place : Type 0 where
@@ -26,10 +28,10 @@ module _ (rows columns : ℕ) where
 
   -- where an edge begins, and where it ends; of those that run down there is a row of `columns` between each two rows of nodes
   unfoldable pub beginning : ℕ → Place
-  beginning e = cond (ltb e across) (placed (e / (columns - 1)) (e % (columns - 1)) east) (placed ((e - across) / columns) ((e - across) % columns) south)
+  beginning e = cond (ltb e across) (placed (e / (columns - 1)) (e % (columns - 1)) East) (placed ((e - across) / columns) ((e - across) % columns) South)
 
   unfoldable pub ending : ℕ → Place
-  ending e = cond (ltb e across) (placed (e / (columns - 1)) (e % (columns - 1) + 1) west) (placed ((e - across) / columns + 1) ((e - across) % columns) north)
+  ending e = cond (ltb e across) (placed (e / (columns - 1)) (e % (columns - 1) + 1) West) (placed ((e - across) / columns + 1) ((e - across) % columns) North)
 
   -- where a dart leaves: dart 2e where its edge begins, dart 2e + 1 where it ends
   unfoldable pub place_of : ℕ → Place
@@ -37,17 +39,17 @@ module _ (rows columns : ℕ) where
 
   -- whether the node in row r and column c has an edge on a side
   unfoldable pub present : ℕ → ℕ → Side → Bool
-  present r c north = ltb 0 r
-  present r c east = ltb (c + 1) columns
-  present r c south = ltb (r + 1) rows
-  present r c west = ltb 0 c
+  present r c North = ltb 0 r
+  present r c East = ltb (c + 1) columns
+  present r c South = ltb (r + 1) rows
+  present r c West = ltb 0 c
 
   -- the dart that leaves it there
   unfoldable pub dart_at : ℕ → ℕ → Side → ℕ
-  dart_at r c north = 2 * (across + ((r - 1) * columns + c)) + 1
-  dart_at r c east = 2 * (r * (columns - 1) + c)
-  dart_at r c south = 2 * (across + (r * columns + c))
-  dart_at r c west = 2 * (r * (columns - 1) + (c - 1)) + 1
+  dart_at r c North = 2 * (across + ((r - 1) * columns + c)) + 1
+  dart_at r c East = 2 * (r * (columns - 1) + c)
+  dart_at r c South = 2 * (across + (r * columns + c))
+  dart_at r c West = 2 * (r * (columns - 1) + (c - 1)) + 1
 
   -- the node at a place, and the dart that leaves it on the next side clockwise
   abbrev pub node_at : Place → ℕ

@@ -3,4 +3,3 @@ pub mod Grid
 pub mod Seed
 pub mod Practice
 pub mod Statements
-pub mod inner

@@ -1,7 +1,8 @@
 -- Practice sheets. Document 02, Job 5: a grid with limits from a seed; "its back limit is 0"; "23 stands first, for R or C outside 2 to 16 or a seed too large,
 -- and 16 for a short output follows." Job 6: "Practice sheets keep kind 1."
-use Rattle.std.specs.Prelude.{◌≡◌, ◌⊎◌, cond, ◌&&◌, List, [], ◌∷◌, ◌++◌, ℕ, ◌*◌, ◌/◌, ◌%◌, ◌≤◌, ◌<◌, eqb, ltb, length, drop, ℤ, pos}
+use Rattle.std.specs.Prelude.{◌≡◌, ◌⊎◌, cond, ◌&&◌, List, [], ◌∷◌, ◌++◌, ℕ, ◌*◌, ◌/◌, ◌%◌, ◌≤◌, ◌<◌, eqb, ltb, length, drop, ℤ, pos, Result, Ok, Err}
 use Rattle.refusals.specs.Order.{Check, ◌when◌, NoneOf, FirstOf}
+use Rattle.refusals.specs.declared.Refusal.{Refusal}
 use Rattle.maps.specs.Drawing.{Drawing}
 use Rattle.records.specs.Record.{record_length}
 use Rattle.records.specs.Sheet.{edge_after}
@@ -9,8 +10,6 @@ use Rattle.records.specs.Check.{Outside}
 use Rattle.records.specs.Encode.{encode_plain}
 use Rattle.practice.specs.Grid.{grid_edges, grid_map}
 use Rattle.practice.specs.Seed.{forward_of}
-use Rattle.practice.specs.declared.PracticeAnswer.{PracticeAnswer}
-use Rattle.practice.specs.declared.PracticeAnswer.TheVariants.{Bytes, Refused}
 
 -- dart 2e has the capacity that the seed gives edge e; every other dart has 0, and so has what is past the darts
 unfoldable pub grid_capacity : (rows columns seed : ℕ) → ℕ → ℤ
@@ -32,9 +31,9 @@ practice_checks rows columns seed out =
     ∷ []
 
 -- the answer and the lent output: the bytes of the grid's drawing in front, the rest as it was
-abbrev pub Practises : (rows columns seed : ℕ) (out out' : List ℕ) → PracticeAnswer → Type 0
-Practises rows columns seed out out' (Bytes n) =
+abbrev pub Practises : (rows columns seed : ℕ) (out out' : List ℕ) → Result ℕ Refusal → Type 0
+Practises rows columns seed out out' (Ok n) =
     NoneOf (practice_checks rows columns seed out)
     × (n ≡ practice_length rows columns)
     × (out' ≡ encode_plain (grid_drawing rows columns seed) ++ drop n out)
-Practises rows columns seed out out' (Refused k p) = FirstOf (practice_checks rows columns seed out) k p × (out' ≡ out)
+Practises rows columns seed out out' (Err r) = FirstOf (practice_checks rows columns seed out) r.number r.place × (out' ≡ out)

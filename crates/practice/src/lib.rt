@@ -1,5 +1,5 @@
 // Practice sheets: a grid of 2 to 16 rows and columns with capacities from a seed, written as a sheet. Document 02, Job 5. A node is told by its row r and
-// column c, from 0 at the top left; its sides have the numbers 0 north, 1 east, 2 south, 3 west, clockwise.
+// column c, from 0 at the top left.
 #![tactic(auto)]
 
 ghost use Rattle.std.specs.Prelude.{◌≡◌, true, ◌⊎◌, List, ◌++◌, ℕ, ◌+◌, ◌*◌, ◌-◌, ◌<◌, ◌≤◌, length, drop, pos};
@@ -8,11 +8,12 @@ ghost use Rattle.fields.specs.Fields.{put};
 ghost use Rattle.records.specs.Record.{record_length};
 ghost use Rattle.records.specs.Check.{Outside};
 ghost use Rattle.records.specs.Encode.{headBytes, edge_bytes, plain_head, encode_plain};
-ghost use Rattle.practice.specs.Side.{next};
+ghost use Rattle.practice.specs.Side.{turn, next};
 ghost use Rattle.practice.specs.Grid.{placed, across, grid_edges, beginning, ending, present, dart_at, node_at, rotation_at};
 ghost use Rattle.practice.specs.Seed.{next_state, capacity_from};
 ghost use Rattle.practice.specs.Practice.{grid_drawing, practice_length, Practises};
-ghost use Rattle.practice.specs.inner.Numbered.{side};
+
+use refusals::{Refusal, refused};
 
 // A product of numbers that are at most 16.
 fn times(a: usize, b: usize) -> usize
@@ -34,59 +35,74 @@ fn edge_south(rows: usize, columns: usize, r: usize, c: usize) -> usize
     requires { (rows ≤ 16) × (1 ≤ columns) × (columns ≤ 16) × (r ≤ 16) × (c ≤ 16) }
     ensures { (result ≡ across rows columns + (r * columns + c)) × (result ≤ 1024) }
 {
-    let first = times(rows, columns - 1);
-    let row = times(r, columns);
-    first + (row + c)
+    times(rows, columns - 1) + (times(r, columns) + c)
+}
+
+// A side of a node, where an edge may be.
+#[derive(Clone, Copy, Debug, PartialEq, Eq)]
+enum Side {
+    North,
+    East,
+    South,
+    West,
+}
+
+// The next side clockwise.
+#[tactic(auto, unfolding(crate::specs::Side::turn))]
+fn turn(s: Side) -> Side
+    ensures { result ≡ turn s }
+{
+    match s {
+        Side::North => Side::East,
+        Side::East => Side::South,
+        Side::South => Side::West,
+        Side::West => Side::North,
+    }
 }
 
 // Whether a node has an edge on a side.
-fn has_side(rows: usize, columns: usize, r: usize, c: usize, s: usize) -> bool
+#[tactic(auto, unfolding(crate::specs::Grid::present))]
+fn has_side(rows: usize, columns: usize, r: usize, c: usize, s: Side) -> bool
     requires { (r ≤ 16) × (c ≤ 16) }
-    ensures { result ≡ present rows columns r c (side s) }
+    ensures { result ≡ present rows columns r c s }
 {
-    if s == 0 {
-        return 0 < r;
+    match s {
+        Side::North => 0 < r,
+        Side::East => c + 1 < columns,
+        Side::South => r + 1 < rows,
+        Side::West => 0 < c,
     }
-    if s == 1 {
-        return c + 1 < columns;
-    }
-    if s == 2 {
-        return r + 1 < rows;
-    }
-    0 < c
 }
 
 // The dart that leaves a node on a side where there is an edge.
-fn dart_at(rows: usize, columns: usize, r: usize, c: usize, s: usize) -> usize
-    requires { (rows ≤ 16) × (columns ≤ 16) × (r < rows) × (c < columns) × (present rows columns r c (side s) ≡ true) }
-    ensures { result ≡ dart_at rows columns r c (side s) }
+#[tactic(auto, unfolding(crate::specs::Grid::present, crate::specs::Grid::dart_at))]
+fn dart_at(rows: usize, columns: usize, r: usize, c: usize, s: Side) -> usize
+    requires { (rows ≤ 16) × (columns ≤ 16) × (r < rows) × (c < columns) × (present rows columns r c s ≡ true) }
+    ensures { result ≡ dart_at rows columns r c s }
 {
-    if s == 0 {
-        return 2 * edge_south(rows, columns, r - 1, c) + 1;
+    match s {
+        Side::North => 2 * edge_south(rows, columns, r - 1, c) + 1,
+        Side::East => 2 * edge_east(columns, r, c),
+        Side::South => 2 * edge_south(rows, columns, r, c),
+        Side::West => 2 * edge_east(columns, r, c - 1) + 1,
     }
-    if s == 1 {
-        return 2 * edge_east(columns, r, c);
-    }
-    if s == 2 {
-        return 2 * edge_south(rows, columns, r, c);
-    }
-    2 * edge_east(columns, r, c - 1) + 1
 }
 
 // The next side clockwise that has an edge.
-fn next_side(rows: usize, columns: usize, r: usize, c: usize, s: usize) -> usize
-    requires { (r ≤ 16) × (c ≤ 16) × (s < 4) }
-    ensures { side result ≡ next (present rows columns r c) (side s) }
+#[tactic(auto, unfolding(crate::specs::Side::next))]
+fn next_side(rows: usize, columns: usize, r: usize, c: usize, s: Side) -> Side
+    requires { (r ≤ 16) × (c ≤ 16) }
+    ensures { result ≡ next (present rows columns r c) s }
 {
-    let one = (s + 1) % 4;
-    let two = (s + 2) % 4;
-    let three = (s + 3) % 4;
+    let one = turn(s);
     if has_side(rows, columns, r, c, one) {
         return one;
     }
+    let two = turn(one);
     if has_side(rows, columns, r, c, two) {
         return two;
     }
+    let three = turn(two);
     if has_side(rows, columns, r, c, three) {
         return three;
     }
@@ -94,21 +110,19 @@ fn next_side(rows: usize, columns: usize, r: usize, c: usize, s: usize) -> usize
 }
 
 // The dart next clockwise to the one that leaves a node on a side.
-fn rotation_at(rows: usize, columns: usize, r: usize, c: usize, s: usize) -> u16
-    requires { (rows ≤ 16) × (columns ≤ 16) × (r < rows) × (c < columns) × (s < 4) × (present rows columns r c (side s) ≡ true) }
-    ensures { result ≡ rotation_at rows columns (placed r c (side s)) }
+fn rotation_at(rows: usize, columns: usize, r: usize, c: usize, s: Side) -> u16
+    requires { (rows ≤ 16) × (columns ≤ 16) × (r < rows) × (c < columns) × (present rows columns r c s ≡ true) }
+    ensures { result ≡ rotation_at rows columns (placed r c s) }
 {
     let t = next_side(rows, columns, r, c, s);
-    let d = dart_at(rows, columns, r, c, t);
-    arrays::narrow(d)
+    arrays::narrow(dart_at(rows, columns, r, c, t))
 }
 
 fn node_at(columns: usize, r: usize, c: usize) -> u16
     requires { (columns ≤ 16) × (r ≤ 16) × (c ≤ 16) }
     ensures { result ≡ r * columns + c }
 {
-    let row = times(r, columns);
-    arrays::narrow(row + c)
+    arrays::narrow(times(r, columns) + c)
 }
 
 // The record of an edge whose backward capacity is 0.
@@ -141,17 +155,17 @@ fn write_between(
     columns: usize,
     r: usize,
     c: usize,
-    s: usize,
+    s: Side,
     row: usize,
     column: usize,
-    t: usize,
+    t: Side,
     forward: i32,
 )
     requires { (place ≤ 100000) × (place + record_length 2 ≤ length out.old) × (rows ≤ 16) × (columns ≤ 16)
-        × (r < rows) × (c < columns) × (s < 4) × (present rows columns r c (side s) ≡ true)
-        × (row < rows) × (column < columns) × (t < 4) × (present rows columns row column (side t) ≡ true) }
-    ensures { out.new ≡ put place (edge_bytes (node_at rows columns (placed r c (side s))) (node_at rows columns (placed row column (side t)))
-        (rotation_at rows columns (placed r c (side s))) (rotation_at rows columns (placed row column (side t))) forward (pos 0)) out.old }
+        × (r < rows) × (c < columns) × (present rows columns r c s ≡ true)
+        × (row < rows) × (column < columns) × (present rows columns row column t ≡ true) }
+    ensures { out.new ≡ put place (edge_bytes (node_at rows columns (placed r c s)) (node_at rows columns (placed row column t))
+        (rotation_at rows columns (placed r c s)) (rotation_at rows columns (placed row column t)) forward (pos 0)) out.old }
 {
     let tail = node_at(columns, r, c);
     let head = node_at(columns, row, column);
@@ -172,16 +186,41 @@ fn write_edge(out: &mut [u8], place: usize, rows: usize, columns: usize, e: usiz
     if e < first {
         let r = e / gaps;
         let c = e % gaps;
-        write_between(out, place, rows, columns, r, c, 1, r, c + 1, 3, forward);
+        write_between(
+            out,
+            place,
+            rows,
+            columns,
+            r,
+            c,
+            Side::East,
+            r,
+            c + 1,
+            Side::West,
+            forward,
+        );
         return;
     }
     let k = e - first;
     let r = k / columns;
     let c = k % columns;
-    write_between(out, place, rows, columns, r, c, 2, r + 1, c, 0, forward);
+    write_between(
+        out,
+        place,
+        rows,
+        columns,
+        r,
+        c,
+        Side::South,
+        r + 1,
+        c,
+        Side::North,
+        forward,
+    );
 }
 
 // The next state of the seed's sequence: the product is below 2 ^ 62.
+#[tactic(auto, unfolding(crate::specs::Seed::next_state))]
 fn next_state(state: u64) -> u64
     requires { state < 2147483648 }
     ensures { (result ≡ next_state state) × (result < 2147483648) }
@@ -215,13 +254,11 @@ fn write_edges(out: &mut [u8], rows: usize, columns: usize, seed: u64)
     let head = records::record_length(1);
     let edges = edge_count(rows, columns);
     let mut state = seed;
-    let mut e: usize = 0;
-    while e < edges {
+    for e in 0..edges {
         state = next_state(state);
         let forward = capacity_from(state);
         let place = records::edge_at(head, e);
         write_edge(out, place, rows, columns, e, forward);
-        e += 1;
     }
 }
 
@@ -239,48 +276,30 @@ fn write_head(out: &mut [u8], nodes: u16, edges: u16)
 fn out_of_range(rows: usize, columns: usize, seed: u64) -> bool
     ensures { Decides (Outside 2 16 rows ⊎ (Outside 2 16 columns ⊎ (2147483648 ≤ seed))) result }
 {
-    if rows < 2 {
-        return true;
-    }
-    if 16 < rows {
-        return true;
-    }
-    if columns < 2 {
-        return true;
-    }
-    if 16 < columns {
-        return true;
-    }
-    if 2147483648 <= seed {
-        return true;
-    }
-    false
+    rows < 2 || 16 < rows || columns < 2 || 16 < columns || 2147483648 <= seed
 }
 
-// What is answered: the number of bytes, or the number of a refusal and its place.
-#[derive(Clone, Copy)]
-pub enum PracticeAnswer {
-    Bytes(usize),
-    Refused(u8, u16),
-}
-
-// A practice sheet: a grid with capacities from a seed, as a sheet with a head of kind 1.
-pub fn practice_sheet(rows: u16, columns: u16, seed: u32, out: &mut [u8]) -> PracticeAnswer
+// A practice sheet: a grid with capacities from a seed, as a sheet with a head of kind 1; it tells the number of bytes.
+#[tactic(auto, using(crate::proofs::Writing::practice_steps))]
+pub fn practice_sheet(rows: u16, columns: u16, seed: u32, out: &mut [u8]) -> Result<usize, Refusal>
     ensures { Practises rows columns seed out.old out.new result }
 {
     let height = arrays::wide(rows);
     let width = arrays::wide(columns);
     let start = seed as u64;
     if out_of_range(height, width, start) {
-        return PracticeAnswer::Refused(23, 0);
+        return refused(23);
     }
     let edges = edge_count(height, width);
     let end = records::edge_at(records::record_length(1), edges);
     if out.len() < end {
-        return PracticeAnswer::Refused(16, 0);
+        return refused(16);
     }
-    let nodes = times(height, width);
-    write_head(out, arrays::narrow(nodes), arrays::narrow(edges));
+    write_head(
+        out,
+        arrays::narrow(times(height, width)),
+        arrays::narrow(edges),
+    );
     write_edges(out, height, width, start);
-    PracticeAnswer::Bytes(end)
+    Ok(end)
 }

@@ -19,10 +19,10 @@ use Rattle.arrays.specs.inner.Flags.{flagged}
 use Rattle.arrays.specs.inner.Sizes.{most_on_sheet}
 use Rattle.balance.proofs.Parts.{part_kept, part_filled}
 use Rattle.maximum.specs.inner.Maximum.{Maximized}
-use Rattle.maximum.specs.declared.Maximum.{Maximum}
-use Rattle.maximum.specs.declared.Maximum.TheVariants as maximum
+use Rattle.std.specs.Prelude.{Option, Some, None}
 use Rattle.questions.specs.Question.{end_checks, room_checks}
 use Rattle.questions.specs.Largest.{search_checks}
+use Rattle.questions.proofs.Asked.{room_flows}
 
 -- ── the ways out ──
 module _ (nodes edges source sink : ℕ) (flows : List ℤ) (set : List ℕ) where
@@ -55,12 +55,15 @@ pub highest_as : {𝓜 : Map} {outer : ℕ} {c : ℕ → ℤ} {s t : ℕ} {v w :
 highest_as {𝓜} {outer} {c} {s} {t} {x = x} e h = subst (λ v. Highest 𝓜 outer c s t v x) e h
 
 -- the flows are lent from the front of a slice: what was found with that part is found with the slice
-pub maximized_back : (𝓜 : Map) (outer : ℕ) (c : ℕ → ℤ) (s t : ℕ) (flows y : List ℤ) (inside : List ℕ) {r answer : Maximum} → r ≡ answer
+pub maximized_back : (𝓜 : Map) (outer : ℕ) (c : ℕ → ℤ) (s t : ℕ) (flows y : List ℤ) (inside : List ℕ) {r answer : Option ℤ} → r ≡ answer
     → Maximized 𝓜 outer c s t (take (𝓜.edges - 0) flows) y inside r → Maximized 𝓜 outer c s t flows (y ++ drop (𝓜.edges - 0) flows) inside answer
 maximized_back 𝓜 outer c s t flows y inside {r} {answer} same m =
     go answer (subst (Maximized 𝓜 outer c s t (take (𝓜.edges - 0) flows) y inside) same m)
   where
-    go : (a : Maximum) → Maximized 𝓜 outer c s t (take (𝓜.edges - 0) flows) y inside a
+    go : (a : Option ℤ) → Maximized 𝓜 outer c s t (take (𝓜.edges - 0) flows) y inside a
         → Maximized 𝓜 outer c s t flows (y ++ drop (𝓜.edges - 0) flows) inside a
-    go (maximum.Value v) m = ((m.0.0, m.0.1, part_filled 𝓜.edges flows m.0.0 y m.0.2), m.1, m.2)
-    go maximum.Nothing m = (part_kept 𝓜.edges flows y m.0, m.1, m.2)
+    go (Some v) m = ((m.0.0, m.0.1, part_filled 𝓜.edges flows m.0.0 y m.0.2), m.1, m.2)
+    go None m = (part_kept 𝓜.edges flows y m.0, m.1, m.2)
+
+-- what Largest stands on
+pub ruleset largest_steps = (largest_ends, largest_room, room_flows)

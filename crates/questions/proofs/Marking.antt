@@ -9,7 +9,8 @@ use lib.IntN.{ℤ}
 use Rattle.integers.specs.inner.Limited.{Limited}
 use Rattle.integers.proofs.Laws.{lt_le_clash}
 use Rattle.refusals.specs.Order.{Check, ◌when◌, NoneOf, FirstOf, Judged}
-use Rattle.refusals.specs.declared.Verdict.{Verdict}
+use Rattle.std.specs.Prelude.{Result}
+use Rattle.refusals.specs.declared.Refusal.{Refusal}
 use Rattle.refusals.proofs.Order.{none_append, first_left, first_right, neither}
 use Rattle.maps.specs.Map.{Map, darts}
 use Rattle.maps.specs.Drawing.{Drawing}
@@ -21,6 +22,7 @@ use Rattle.arrays.specs.inner.Sizes.{most_on_sheet}
 use Rattle.balance.specs.inner.SmallFlows.{SmallFlows}
 use Rattle.balance.specs.inner.NetUpTo.{net_up_to}
 use Rattle.balance.specs.inner.Check.{off_checks}
+use Rattle.balance.proofs.Parts.{part_length}
 use Rattle.balance.proofs.Nets.{up_to_all}
 use Rattle.balance.proofs.Within.{small_flows}
 use Rattle.balance.proofs.Balance.{judged_ends}
@@ -78,6 +80,9 @@ module _ (𝓜 : Map) (x : ℕ → ℤ) where
     pub net_of : (v : ℕ) → v < 𝓜.nodes → atℤ nets v ≡ net 𝓜 (on_darts x) v
     net_of v l = are v (omega (arith, few, l)) ∙ up_to_all 𝓜 x v
 
-    pub ends_balanced : (source sink : ℕ) (v : Verdict) → Judged (off_checks 𝓜.nodes source sink (atℤ nets)) v
+    pub ends_balanced : (source sink : ℕ) (v : Result Unit Refusal) → Judged (off_checks 𝓜.nodes source sink (atℤ nets)) v
         → Judged (balance_checks 𝓜 (EndOf source sink) x) v
     ends_balanced source sink v j = judged_ends 𝓜 x (atℤ nets) net_of source sink v j
+
+-- what Mark stands on
+pub ruleset mark_steps = (mark_ends, mark_short, part_length)

@@ -1,20 +1,22 @@
 -- Solve: its ways out as verdicts of its whole list of checks; its ends as the solver takes them; and what the solver decided, of the slice lent.
-use mathlib.Core.Path.{◌≡◌, subst}
+use mathlib.Core.Path.{◌≡◌, refl, subst}
+use mathlib.Core.Logic.{inl}
 use mathlib.Core.Bool.{Bool, true, false}
 use mathlib.Core.List.{List, ◌++◌}
 use Prim.Native.Nat.{ℕ, ◌-◌}
 use lib.ListN.{length, take, drop}
 use lib.IntN.{ℤ}
 use Rattle.refusals.specs.Order.{Check, NoneOf, FirstOf, Judged}
-use Rattle.refusals.specs.declared.Verdict.{Verdict}
+use Rattle.std.specs.Prelude.{Result}
+use Rattle.refusals.specs.declared.Refusal.{Refusal}
 use Rattle.refusals.proofs.Order.{none_append, first_left, first_right}
 use Rattle.maps.specs.Map.{Map}
 use Rattle.balance.proofs.Parts.{part_kept, part_filled}
 use Rattle.solver.specs.inner.Ends.{Ends}
 use Rattle.solver.specs.inner.Decision.{Decided}
-use Rattle.questions.specs.Question.{end_checks, value_checks, room_checks}
+use Rattle.questions.specs.Question.{end_checks, ValueOutside, value_checks, room_checks}
 use Rattle.questions.specs.Solve.{question_checks}
-use Rattle.questions.proofs.Asked.{ends_in, ends_differ}
+use Rattle.questions.proofs.Asked.{ends_in, ends_differ, room_flows}
 
 -- ── the ways out ──
 module _ (nodes edges source sink : ℕ) (value : ℤ) (flows : List ℤ) (set : List ℕ) where
@@ -36,8 +38,9 @@ module _ (nodes edges source sink : ℕ) (value : ℤ) (flows : List ℤ) (set :
     unfolding question_checks
     rest k p h = first_right ends (asked ++ room) k p two h
 
-    pub solve_value : (k p : ℕ) → FirstOf asked k p → FirstOf (question_checks nodes edges source sink value flows set) k p
-    solve_value k p h = rest k p (first_left asked room k p h)
+    pub solve_value : ValueOutside value → FirstOf (question_checks nodes edges source sink value flows set) 15 0
+    unfolding FirstOf value_checks
+    solve_value out = rest 15 0 (first_left asked room 15 0 (inl (out, refl, refl)))
 
     module _ (inside : NoneOf asked) where
       pub solve_room : (k p : ℕ) → FirstOf room k p → FirstOf (question_checks nodes edges source sink value flows set) k p
@@ -47,9 +50,13 @@ module _ (nodes edges source sink : ℕ) (value : ℤ) (flows : List ℤ) (set :
       unfolding question_checks
       solve_none h = none_append ends (asked ++ room) two (none_append asked room inside h)
 
+pub value_inside : (value : ℤ) → (ValueOutside value → ⊥) → NoneOf (value_checks value)
+unfolding NoneOf value_checks
+value_inside value inside = (inside, tt)
+
 -- ── the ends ──
 -- at the width of an index
-pub ends_as : {a b source sink : ℕ} → a ≡ source → b ≡ sink → (nodes : ℕ) (v : Verdict) → Judged (end_checks nodes a b) v
+pub ends_as : {a b source sink : ℕ} → a ≡ source → b ≡ sink → (nodes : ℕ) (v : Result Unit Refusal) → Judged (end_checks nodes a b) v
     → Judged (end_checks nodes source sink) v
 ends_as p q nodes v j = rw (← p, ← q) j
 
@@ -69,3 +76,6 @@ decided_back 𝓜 outer c s t value flows y inside {r} {answer} same d =
         → Decided 𝓜 outer c s t value flows (y ++ drop (𝓜.edges - 0) flows) inside b
     go true d = (d.0, d.1, part_filled 𝓜.edges flows d.0 y d.2)
     go false d = (part_kept 𝓜.edges flows y d.0, d.1)
+
+-- what Solve stands on
+pub ruleset solve_steps = (solve_ends, solve_value, solve_room, value_inside, room_flows)

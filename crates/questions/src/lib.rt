@@ -13,62 +13,51 @@ ghost use Rattle.questions.specs.Largest.{search_checks, LargestFound};
 ghost use Rattle.questions.specs.Mark.{paper_checks, Marked};
 
 use arrays::{Demand, Sizes, Terminals};
-use maximum::Maximum;
-use refusals::Verdict;
+use refusals::{Refusal, refused};
 
 // Checks 13 and 14: source and sink are nodes, and two.
-pub fn check_ends(nodes: usize, source: usize, sink: usize) -> Verdict
+#[tactic(auto, unfolding(refusals::specs::Order::NoneOf, refusals::specs::Order::FirstOf, crate::specs::Question::end_checks))]
+pub fn check_ends(nodes: usize, source: usize, sink: usize) -> Result<(), Refusal>
     ensures { Judged (end_checks nodes source sink) result }
 {
-    if nodes <= source {
-        return Verdict::Refused(13, 0);
-    }
-    if nodes <= sink {
-        return Verdict::Refused(13, 0);
+    if nodes <= source || nodes <= sink {
+        return refused(13);
     }
     if source == sink {
-        return Verdict::Refused(14, 0);
+        return refused(14);
     }
-    Verdict::Passed
+    Ok(())
 }
 
 // Check 15: whether a value is not from -600,000,000 to 600,000,000.
 pub fn value_outside(value: i32) -> bool
     ensures { Decides (ValueOutside value) result }
 {
-    if value < -600000000 {
-        return true;
-    }
-    if value > 600000000 {
-        return true;
-    }
-    false
+    value < -600000000 || 600000000 < value
 }
 
 // Check 16 of a question: room for the flows of the edges, and for the words of a set of nodes.
-pub fn check_room(nodes: usize, edges: usize, flows: usize, set: usize) -> Verdict
+#[tactic(auto, unfolding(refusals::specs::Order::NoneOf, refusals::specs::Order::FirstOf, crate::specs::Question::room_checks))]
+pub fn check_room(nodes: usize, edges: usize, flows: usize, set: usize) -> Result<(), Refusal>
     requires { nodes ≤ 1024 }
     ensures { Judged (room_checks nodes edges flows set) result }
 {
-    if flows < edges {
-        return Verdict::Refused(16, 0);
+    if flows < edges || set < node_sets::words_for(nodes) {
+        return refused(16);
     }
-    if set < node_sets::words_for(nodes) {
-        return Verdict::Refused(16, 0);
-    }
-    Verdict::Passed
+    Ok(())
 }
 
-// What Solve answers: it can, and the flows are written; it cannot, and a proving set of this size is written; or the number of a refusal and its place.
-#[derive(Clone, Copy)]
-pub enum SolveAnswer {
+// What Solve finds: it can, and the flows are written; or it cannot, and a proving set of this size is written.
+#[derive(Clone, Copy, Debug, PartialEq, Eq)]
+pub enum Solution {
     Can,
     Cannot(u16),
-    Refused(u8, u16),
 }
 
 // Solve: the highest flow of a value from source to sink, or a set of nodes that proves that there is none.
 // The flows are written if it can, the set if it cannot.
+#[tactic(auto, using(crate::proofs::Solving::solve_steps))]
 pub fn solve<'a>(
     tails: &'a [u16; 1024],
     rotations: &'a [u16; 1024],
@@ -82,7 +71,7 @@ pub fn solve<'a>(
     demand: Demand,
     flows: &mut [i32],
     set: &mut [u64],
-) -> SolveAnswer
+) -> Result<Solution, Refusal>
     requires { OpenDrawing sizes tails.now rotations.now lefts.now capacities.now order.now from.now grouped.now starts.now }
     ensures { Solved (drawing_of sizes.nodes sizes.edges sizes.outer tails.now rotations.now capacities.now)
         (question_checks sizes.nodes sizes.edges demand.source demand.sink demand.value flows.old set.old)
@@ -90,17 +79,11 @@ pub fn solve<'a>(
         × SetNamed (drawing_of sizes.nodes sizes.edges sizes.outer tails.now rotations.now capacities.now)
         demand.source demand.sink demand.value set.new result }
 {
-    let named = check_ends(sizes.nodes, demand.source, demand.sink);
-    if let Verdict::Refused(k, p) = named {
-        return SolveAnswer::Refused(k, p);
-    }
+    check_ends(sizes.nodes, demand.source, demand.sink)?;
     if value_outside(demand.value) {
-        return SolveAnswer::Refused(15, 0);
+        return refused(15);
     }
-    let room = check_room(sizes.nodes, sizes.edges, flows.len(), set.len());
-    if let Verdict::Refused(k, p) = room {
-        return SolveAnswer::Refused(k, p);
-    }
+    check_room(sizes.nodes, sizes.edges, flows.len(), set.len())?;
     let mut inside = [0u8; 1024];
     let mut parents = [1024u16; 1024];
     let edges = sizes.edges;
@@ -119,24 +102,17 @@ pub fn solve<'a>(
         &mut flows[0..edges],
         &mut inside,
     ) {
-        return SolveAnswer::Can;
+        return Ok(Solution::Can);
     }
     let words = node_sets::words_for(sizes.nodes);
     node_sets::write_set(&inside, sizes.nodes, &mut set[0..words]);
     let size = node_sets::count_set(&set[0..words], sizes.nodes);
-    SolveAnswer::Cannot(arrays::narrow(size))
+    Ok(Solution::Cannot(arrays::narrow(size)))
 }
 
-// What Largest answers: the largest value that can be carried, that nothing at all can be, or the number of a refusal and its place.
-#[derive(Clone, Copy)]
-pub enum LargestAnswer {
-    Value(i32),
-    None,
-    Refused(u8, u16),
-}
-
-// Largest: the largest value that can be carried from source to sink, its highest flow, and a set that proves the next greater one impossible; or a set that
-// proves that nothing can be carried, with the flows left as they were.
+// Largest: the largest value that can be carried from source to sink, its highest flow, and a set that proves the next greater one impossible; or none, and a
+// set that proves that nothing can be carried, with the flows left as they were.
+#[tactic(auto, using(crate::proofs::Finding::largest_steps))]
 pub fn largest<'a>(
     tails: &'a [u16; 1024],
     rotations: &'a [u16; 1024],
@@ -150,21 +126,15 @@ pub fn largest<'a>(
     terminals: Terminals,
     flows: &mut [i32],
     set: &mut [u64],
-) -> LargestAnswer
+) -> Result<Option<i32>, Refusal>
     requires { OpenSheet sizes tails.now rotations.now lefts.now capacities.now order.now from.now grouped.now starts.now }
     ensures { LargestFound
         (drawing_of sizes.nodes sizes.edges sizes.outer tails.now rotations.now capacities.now)
         (search_checks sizes.nodes sizes.edges terminals.source terminals.sink flows.old set.old)
         terminals.source terminals.sink flows.old flows.new set.old set.new result }
 {
-    let named = check_ends(sizes.nodes, terminals.source, terminals.sink);
-    if let Verdict::Refused(k, p) = named {
-        return LargestAnswer::Refused(k, p);
-    }
-    let room = check_room(sizes.nodes, sizes.edges, flows.len(), set.len());
-    if let Verdict::Refused(k, p) = room {
-        return LargestAnswer::Refused(k, p);
-    }
+    check_ends(sizes.nodes, terminals.source, terminals.sink)?;
+    check_room(sizes.nodes, sizes.edges, flows.len(), set.len())?;
     let mut inside = [0u8; 1024];
     let places = sizes.edges;
     let most = maximum::maximize(
@@ -183,21 +153,12 @@ pub fn largest<'a>(
     );
     let words = node_sets::words_for(sizes.nodes);
     node_sets::write_set(&inside, sizes.nodes, &mut set[0..words]);
-    if let Maximum::Value(v) = most {
-        return LargestAnswer::Value(v);
-    }
-    LargestAnswer::None
-}
-
-// What Mark answers: the value, or the number of a refusal and its place.
-#[derive(Clone, Copy)]
-pub enum MarkAnswer {
-    Value(i32),
-    Refused(u8, u16),
+    Ok(most)
 }
 
 // Mark: the value that given flows of the edges carry, if they carry any.
 // The rotations and the outer dart are named by the contract only: they are part of its drawing.
+#[tactic(auto, using(crate::proofs::Marking::mark_steps))]
 pub fn mark<'a>(
     tails: &'a [u16; 1024],
     rotations: &'a [u16; 1024],
@@ -205,32 +166,23 @@ pub fn mark<'a>(
     sizes: Sizes,
     terminals: Terminals,
     flows: &[i32],
-) -> MarkAnswer
+) -> Result<i32, Refusal>
     requires { OpenPaper sizes tails.now capacities.now }
     ensures { Marked (drawing_of sizes.nodes sizes.edges sizes.outer tails.now rotations.now capacities.now)
         (paper_checks (drawing_of sizes.nodes sizes.edges sizes.outer tails.now rotations.now capacities.now)
         terminals.source terminals.sink flows.now)
         terminals.source terminals.sink flows.now result }
 {
-    let ends = check_ends(sizes.nodes, terminals.source, terminals.sink);
-    if let Verdict::Refused(k, p) = ends {
-        return MarkAnswer::Refused(k, p);
-    }
+    check_ends(sizes.nodes, terminals.source, terminals.sink)?;
     let many = sizes.edges;
     if flows.len() < many {
-        return MarkAnswer::Refused(16, 0);
+        return refused(16);
     }
     let given = &flows[0..many];
-    let within = balance::check_within(capacities, many, given);
-    if let Verdict::Refused(k, p) = within {
-        return MarkAnswer::Refused(k, p);
-    }
+    balance::check_within(capacities, many, given)?;
     let mut nets = [0i32; 1024];
     balance::fill_nets(tails, many, given, &mut nets);
     let source = terminals.source;
-    let balanced = balance::check_balance(&nets, sizes.nodes, source, terminals.sink);
-    if let Verdict::Refused(k, p) = balanced {
-        return MarkAnswer::Refused(k, p);
-    }
-    MarkAnswer::Value(nets[source])
+    balance::check_balance(&nets, sizes.nodes, source, terminals.sink)?;
+    Ok(nets[source])
 }

@@ -1,5 +1,6 @@
 -- The ways out as verdicts of the whole list of checks; what an accepted question is known of; what was found, of the question.
-use mathlib.Core.Path.{◌≡◌, sym, subst}
+use mathlib.Core.Path.{◌≡◌, refl, sym, subst}
+use mathlib.Core.Logic.{inl}
 use mathlib.Core.List.{List, ◌++◌}
 use Prim.Native.Nat.{ℕ, ◌*◌, ◌-◌, ◌≤◌, ◌<◌}
 use native.Mathlib.Omega.{arith}
@@ -7,6 +8,7 @@ use lib.ListN.{length, take, drop}
 use lib.IntN.{ℤ}
 use mir.Syntax.{w32}
 use mir.Val.{to_z, of_z}
+use Rattle.std.specs.Prelude.{Ok, Option, Some, None}
 use Rattle.integers.specs.inner.Limited.{Limited}
 use Rattle.integers.proofs.Laws.{le_trans}
 use Rattle.refusals.specs.Order.{Check, NoneOf, FirstOf}
@@ -14,17 +16,20 @@ use Rattle.refusals.proofs.Order.{none_append, append_none, first_left, first_ri
 use Rattle.signed.proofs.Limits.{same_bits}
 use Rattle.maps.specs.Drawing.{Drawing}
 use Rattle.balance.proofs.Parts.{part_kept, part_filled}
-use Rattle.questions.specs.Question.{end_checks, value_checks, room_checks}
+use Rattle.questions.specs.Question.{end_checks, ValueOutside, value_checks, room_checks}
 use Rattle.raising.specs.Raise.{edge_checks, limit_checks, RaiseFound}
 use Rattle.raising.specs.inner.Sought.{Sought}
-use Rattle.raising.specs.declared.RaiseAnswer.TheVariants.{Limit}
-use Rattle.raising.specs.declared.Found.{Found}
-use Rattle.raising.specs.declared.Found.TheVariants.{At, Nowhere}
+use Rattle.questions.proofs.Asked.{room_flows}
+use Rattle.questions.proofs.Solving.{value_inside}
 
 -- ── 25 ──
 pub edge_in : (edges edge : ℕ) → NoneOf (edge_checks edges edge) → edge < edges
 unfolding NoneOf edge_checks
 edge_in edges edge h = let l : edges ≤ edge → ⊥ = h.0 in omega arith
+
+pub is_edge : (edges edge : ℕ) → edge < edges → NoneOf (edge_checks edges edge)
+unfolding NoneOf edge_checks
+is_edge edges edge below = ((λ h. omega arith), tt)
 
 -- ── the ways out ──
 module _ (nodes edges source sink : ℕ) (value : ℤ) (edge : ℕ) (flows : List ℤ) (set : List ℕ) where
@@ -49,12 +54,14 @@ module _ (nodes edges source sink : ℕ) (value : ℤ) (edge : ℕ) (flows : Lis
     unfolding limit_checks
     rest k p h = first_right ends (asked ++ (channel ++ room)) k p two h
 
-    pub raise_value : (k p : ℕ) → FirstOf asked k p → FirstOf (limit_checks nodes edges source sink value edge flows set) k p
-    raise_value k p h = rest k p (first_left asked (channel ++ room) k p h)
+    pub raise_value : ValueOutside value → FirstOf (limit_checks nodes edges source sink value edge flows set) 15 0
+    unfolding FirstOf value_checks
+    raise_value out = rest 15 0 (first_left asked (channel ++ room) 15 0 (inl (out, refl, refl)))
 
     module _ (inside : NoneOf asked) where
-      pub raise_edge : (k p : ℕ) → FirstOf channel k p → FirstOf (limit_checks nodes edges source sink value edge flows set) k p
-      raise_edge k p h = rest k p (first_right asked (channel ++ room) k p inside (first_left channel room k p h))
+      pub raise_edge : edges ≤ edge → FirstOf (limit_checks nodes edges source sink value edge flows set) 25 0
+      unfolding FirstOf edge_checks
+      raise_edge past = rest 25 0 (first_right asked (channel ++ room) 25 0 inside (first_left channel room 25 0 (inl (past, refl, refl))))
 
       module _ (is : NoneOf channel) where
         pub raise_room : (k p : ℕ) → FirstOf room k p → FirstOf (limit_checks nodes edges source sink value edge flows set) k p
@@ -80,24 +87,28 @@ module _ (nodes edges source sink : ℕ) (value : ℤ) (edge : ℕ) (flows : Lis
       record { ends_two = a.0; value_inside = b.0; is_edge = c.0; has_room = c.1 }
 
 -- ── what was found: the flows are lent from the front of a slice, and what was found with that part is found with the slice ──
-pub sought_back : (𝓓 : Drawing) (source sink : ℕ) (value : ℤ) (edge : ℕ) (flows y : List ℤ) (inside : List ℕ) {r answer : Found} → r ≡ answer
+pub sought_back : (𝓓 : Drawing) (source sink : ℕ) (value : ℤ) (edge : ℕ) (flows y : List ℤ) (inside : List ℕ) {r answer : Option ℤ} → r ≡ answer
     → Sought 𝓓 source sink value edge (take (𝓓.map.edges - 0) flows) y inside r
     → Sought 𝓓 source sink value edge flows (y ++ drop (𝓓.map.edges - 0) flows) inside answer
 sought_back 𝓓 source sink value edge flows y inside {r} {answer} same h =
     go answer (subst (Sought 𝓓 source sink value edge (take (𝓓.map.edges - 0) flows) y inside) same h)
   where
-    go : (a : Found) → Sought 𝓓 source sink value edge (take (𝓓.map.edges - 0) flows) y inside a
+    go : (a : Option ℤ) → Sought 𝓓 source sink value edge (take (𝓓.map.edges - 0) flows) y inside a
         → Sought 𝓓 source sink value edge flows (y ++ drop (𝓓.map.edges - 0) flows) inside a
-    go (At v) h = (h.0, h.1, (h.2.0, h.2.1, part_filled 𝓓.map.edges flows h.2.0 y h.2.2), h.3)
-    go Nowhere h = (part_kept 𝓓.map.edges flows y h.0, h.1)
+    go (Some v) h = (h.0, h.1, (h.2.0, h.2.1, part_filled 𝓓.map.edges flows h.2.0 y h.2.2), h.3)
+    go None h = (part_kept 𝓓.map.edges flows y h.0, h.1)
 
 -- the capacity found, from the number of its bits
 pub told_limit : (𝓓 : Drawing) (source sink : ℕ) (value : ℤ) (edge : ℕ) (before flows : List ℤ) (inside : List ℕ) (v : ℤ)
-    → Limited 1000000 (𝓓.capacity (2 * edge)) → Sought 𝓓 source sink value edge before flows inside (At v) → to_z w32 (of_z w32 v) ≡ v
+    → Limited 1000000 (𝓓.capacity (2 * edge)) → Sought 𝓓 source sink value edge before flows inside (Some v) → to_z w32 (of_z w32 v) ≡ v
 told_limit 𝓓 source sink value edge before flows inside v small h =
     let l : Limited 1000000 v = record { low = le_trans small.low h.0; high = h.1 } in same_bits (omega arith) l
 
 pub limit_as : (𝓓 : Drawing) (checks : List Check) (source sink : ℕ) (value : ℤ) (edge : ℕ) (flows flows' : List ℤ) (set set' : List ℕ) {v w : ℤ} → w ≡ v
-    → RaiseFound 𝓓 checks source sink value edge flows flows' set set' (Limit v) → RaiseFound 𝓓 checks source sink value edge flows flows' set set' (Limit w)
+    → RaiseFound 𝓓 checks source sink value edge flows flows' set set' (Ok (Some v))
+    → RaiseFound 𝓓 checks source sink value edge flows flows' set set' (Ok (Some w))
 limit_as 𝓓 checks source sink value edge flows flows' set set' e h =
-    subst (λ z. RaiseFound 𝓓 checks source sink value edge flows flows' set set' (Limit z)) (sym e) h
+    subst (λ z. RaiseFound 𝓓 checks source sink value edge flows flows' set set' (Ok (Some z))) (sym e) h
+
+-- what the operation stands on
+pub ruleset raise_steps = (raise_ends, raise_value, raise_edge, raise_room, value_inside, is_edge, room_flows)

@@ -9,9 +9,14 @@ use native.Mathlib.Omega.{arith}
 use lib.Dec.{eqb}
 use lib.IntN.{ℤ, pos, ◌-ℤ◌}
 use lib.Signed.{◌≤ℤ◌, ◌<ℤ◌}
+use mir.Syntax.{w32}
+use mir.Val.{to_z, of_z}
+use Rattle.std.specs.Prelude.{Option, Some}
+use Rattle.integers.specs.inner.Limited.{Limited}
 use Rattle.integers.proofs.Omega.{atoms₄, parts, at_most, from_equal, from_at_most}
 use Rattle.integers.proofs.Laws.{le_trans, le_of_lt, lt_or_ge, lt_le_clash}
 use Rattle.integers.proofs.Tests.{eqb_true, eqb_eq}
+use Rattle.signed.proofs.Limits.{same_bits}
 use Rattle.maps.specs.Map.{Map, darts}
 use Rattle.maps.specs.Face.{left, right}
 use Rattle.maps.specs.Drawing.{Drawing}
@@ -22,16 +27,16 @@ use Rattle.flows.specs.Highest.{Highest}
 use Rattle.flows.specs.ProvingSet.{Proves}
 use Rattle.flows.proofs.OnDarts.{on_darts_even}
 use Rattle.flows.proofs.Exact.{proves_excludes}
+use Rattle.arrays.specs.At.{atℤ}
 use Rattle.arrays.specs.Filled.{filled}
 use Rattle.arrays.specs.inner.Flags.{flagged}
+use Rattle.arrays.proofs.FillLoops.{filled_front}
 use Rattle.solver.specs.inner.Ends.{Ends}
 use Rattle.solver.specs.inner.Decision.{Decided}
 use Rattle.maximum.proofs.Bracketing.{filled_again}
 use Rattle.raising.specs.Raised.{raised}
 use Rattle.raising.specs.Raise.{Fails}
 use Rattle.raising.specs.inner.Sought.{most_limit, Sought}
-use Rattle.raising.specs.declared.Found.{Found}
-use Rattle.raising.specs.declared.Found.TheVariants.{At}
 use Rattle.raising.proofs.Raised.{le_same, raised_present, raised_more}
 
 -- ── the highest flow from the face left of a dart has the least on it: another differs by levels of at most 0, with 0 left of the dart ──
@@ -57,7 +62,7 @@ module _ (𝓓 : Drawing) (s t : ℕ) (value : ℤ) (edge : ℕ) (flows : List �
 
   -- ── the present one ──
   pub present_serves : present ≤ℤ most_limit → (flows' : List ℤ) (inside : List ℕ)
-      → Decided 𝓓.map 𝓓.outer 𝓓.capacity s t value flows flows' inside true → Sought 𝓓 s t value edge flows flows' inside (At present)
+      → Decided 𝓓.map 𝓓.outer 𝓓.capacity s t value flows flows' inside true → Sought 𝓓 s t value edge flows flows' inside (Some present)
   present_serves most flows' inside d = (
     le_same present,
     most,
@@ -113,7 +118,7 @@ module _ (𝓓 : Drawing) (s t : ℕ) (value : ℤ) (edge : ℕ) (flows : List �
       -- one decision writes its highest flow, over those of 1,000,000
       pub least_serves : (between flows' : List ℤ) (inside : List ℕ) (r : Bool) → between ≡ filled 𝓓.map.edges x flows
           → Decided 𝓓.map 𝓓.outer (raised 𝓓.capacity edge v) s t value between flows' inside r
-          → Sought 𝓓 s t value edge flows flows' inside (At (x edge))
+          → Sought 𝓓 s t value edge flows flows' inside (Some (x edge))
       least_serves between flows' inside true e d = (
         le_of_lt above_present,
         under_most,
@@ -122,11 +127,28 @@ module _ (𝓓 : Drawing) (s t : ℕ) (value : ℤ) (edge : ℕ) (flows : List �
       )
       least_serves between flows' inside false e d = absurd (excludes (raised 𝓓.capacity edge v) (flagged inside) d.1 x carried)
 
+-- ── the least capacity as it is read: the flow on the edge, in the number of its bits ──
+module _ (𝓓 : Drawing) (s t : ℕ) (value : ℤ) (edge : ℕ) (flows between : List ℤ) (inside : List ℕ) (sound : Sound 𝓓.map) (two : Ends 𝓓.map s t)
+    (edge_in : edge < 𝓓.map.edges) (small : Limited 1000000 (𝓓.capacity (2 * edge))) (failed : Fails 𝓓 s t value edge (𝓓.capacity (2 * edge)))
+    (d : Decided 𝓓.map (2 * edge) (raised 𝓓.capacity edge most_limit) s t value flows between inside true) where
+  pub limit_above : 𝓓.capacity (2 * edge) <ℤ d.0 edge
+  limit_above = above_present 𝓓 s t value edge flows sound.range two sound (omega arith) failed d.0 d.1
+
+  pub limit_small : Limited 1000000 (d.0 edge)
+  limit_small = record {
+    low = le_trans small.low (le_of_lt limit_above);
+    high = under_most 𝓓 s t value edge flows sound.range two sound (omega arith) failed d.0 d.1;
+  }
+
+  pub limit_told : to_z w32 (of_z w32 (atℤ between edge)) ≡ d.0 edge
+  limit_told =
+      ap (λ z. to_z w32 (of_z w32 z)) (filled_front (pos 0) 𝓓.map.edges d.0 flows between d.2 edge edge_in) ∙ same_bits (omega arith) limit_small
+
 -- ── the same of what is equal: of the capacities that an array holds, of numbers held as bits, of slices as they were ──
 pub decided_as : (𝓜 : Map) (outer : ℕ) {c c' : ℕ → ℤ} → c ≡ c' → (s t : ℕ) (value : ℤ) (flows flows' : List ℤ) (inside : List ℕ)
     {r a : Bool} → r ≡ a → Decided 𝓜 outer c s t value flows flows' inside r → Decided 𝓜 outer c' s t value flows flows' inside a
 decided_as 𝓜 outer p s t value flows flows' inside q h = rw (← p, ← q) h
 
 pub sought_as : (𝓓 : Drawing) (s t : ℕ) (value : ℤ) (edge : ℕ) {old before : List ℤ} → old ≡ before → (flows : List ℤ) (inside : List ℕ)
-    {r a : Found} → r ≡ a → Sought 𝓓 s t value edge old flows inside r → Sought 𝓓 s t value edge before flows inside a
+    {r a : Option ℤ} → r ≡ a → Sought 𝓓 s t value edge old flows inside r → Sought 𝓓 s t value edge before flows inside a
 sought_as 𝓓 s t value edge p flows inside q h = rw (← p, ← q) h

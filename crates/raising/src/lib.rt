@@ -14,22 +14,7 @@ ghost use Rattle.raising.specs.inner.Sought.{Sought};
 ghost use Rattle.raising.specs.inner.Lifted.{Liftable};
 
 use arrays::{Demand, Sizes};
-use refusals::Verdict;
-
-// What is answered: the forward capacity, that none serves, or the number of a refusal and its place.
-#[derive(Clone, Copy)]
-pub enum RaiseAnswer {
-    Limit(i32),
-    None,
-    Refused(u8, u16),
-}
-
-// The least capacity that serves, or that the greatest does not.
-#[derive(Clone, Copy)]
-enum Found {
-    At(i32),
-    Nowhere,
-}
+use refusals::{Refusal, refused};
 
 // The least capacity of the edge's forward dart, where its present one fails: the flow on it that is highest from the face left of it, with 1,000,000 as its
 // capacity. The highest flow with that is written. Where 1,000,000 fails too, the nodes of a set that proves it are flagged.
@@ -47,7 +32,7 @@ fn least_limit<'a>(
     edge: usize,
     flows: &mut [i32],
     inside: &mut [u8; 1024],
-) -> Found
+) -> Option<i32>
     requires { Liftable sizes demand.source demand.sink demand.value edge tails.now rotations.now lefts.now capacities.old
         order.now from.now grouped.now starts.now flows.old inside.old
         × Fails (drawing_of sizes.nodes sizes.edges sizes.outer tails.now rotations.now capacities.old) demand.source demand.sink
@@ -90,9 +75,9 @@ fn least_limit<'a>(
             flows,
             inside,
         );
-        return Found::At(limit);
+        return Some(limit);
     }
-    Found::Nowhere
+    None
 }
 
 // The present capacity of the edge's forward dart where it serves, with its highest flow; else the least greater one that does.
@@ -110,7 +95,7 @@ fn find_limit<'a>(
     edge: usize,
     flows: &mut [i32],
     inside: &mut [u8; 1024],
-) -> Found
+) -> Option<i32>
     requires { Liftable sizes demand.source demand.sink demand.value edge tails.now rotations.now lefts.now capacities.old
         order.now from.now grouped.now starts.now flows.old inside.old }
     ensures { (length inside.new ≡ 1024)
@@ -132,7 +117,7 @@ fn find_limit<'a>(
         &mut *flows,
         &mut *inside,
     ) {
-        return Found::At(capacities[2 * edge]);
+        return Some(capacities[2 * edge]);
     }
     least_limit(
         tails, rotations, lefts, capacities, order, from, grouped, starts, sizes, demand, edge,
@@ -142,6 +127,7 @@ fn find_limit<'a>(
 
 // The least forward capacity of an edge, from its present one to 1,000,000, with which the value can be carried from source to sink, and the highest flow under
 // it; or a set of nodes that proves that it cannot be with 1,000,000. The flows are written if there is one, the set if there is none.
+#[tactic(auto, using(crate::proofs::Raising::raise_steps))]
 pub fn raise_limit<'a>(
     tails: &'a [u16; 1024],
     rotations: &'a [u16; 1024],
@@ -156,27 +142,21 @@ pub fn raise_limit<'a>(
     edge: usize,
     flows: &mut [i32],
     set: &mut [u64],
-) -> RaiseAnswer
+) -> Result<Option<i32>, Refusal>
     requires { (length capacities.old ≡ 1024)
         × OpenSheet sizes tails.now rotations.now lefts.now capacities.old order.now from.now grouped.now starts.now }
     ensures { RaiseFound (drawing_of sizes.nodes sizes.edges sizes.outer tails.now rotations.now capacities.old)
         (limit_checks sizes.nodes sizes.edges demand.source demand.sink demand.value edge flows.old set.old)
         demand.source demand.sink demand.value edge flows.old flows.new set.old set.new result }
 {
-    let named = questions::check_ends(sizes.nodes, demand.source, demand.sink);
-    if let Verdict::Refused(k, p) = named {
-        return RaiseAnswer::Refused(k, p);
-    }
+    questions::check_ends(sizes.nodes, demand.source, demand.sink)?;
     if questions::value_outside(demand.value) {
-        return RaiseAnswer::Refused(15, 0);
+        return refused(15);
     }
     if sizes.edges <= edge {
-        return RaiseAnswer::Refused(25, 0);
+        return refused(25);
     }
-    let room = questions::check_room(sizes.nodes, sizes.edges, flows.len(), set.len());
-    if let Verdict::Refused(k, p) = room {
-        return RaiseAnswer::Refused(k, p);
-    }
+    questions::check_room(sizes.nodes, sizes.edges, flows.len(), set.len())?;
     let mut inside = [0u8; 1024];
     let edges = sizes.edges;
     let least = find_limit(
@@ -194,10 +174,10 @@ pub fn raise_limit<'a>(
         &mut flows[0..edges],
         &mut inside,
     );
-    if let Found::At(v) = least {
-        return RaiseAnswer::Limit(v);
+    if let Some(v) = least {
+        return Ok(Some(v));
     }
     let words = node_sets::words_for(sizes.nodes);
     node_sets::write_set(&inside, sizes.nodes, &mut set[0..words]);
-    RaiseAnswer::None
+    Ok(None)
 }

@@ -6,6 +6,7 @@ use lib.IntN.{ℤ}
 use Rattle.refusals.specs.Order.{Check, NoneOf, FirstOf}
 use Rattle.refusals.proofs.Order.{none_append, append_none, first_left, first_right}
 use Rattle.questions.specs.Question.{end_checks, room_checks}
+use Rattle.questions.proofs.Asked.{room_flows}
 use Rattle.ranges.specs.Range.{span_checks}
 
 module _ (nodes edges source sink : ℕ) (low : List ℤ) (below : List ℕ) (high : List ℤ) (above : List ℕ) where
@@ -48,3 +49,6 @@ module _ (nodes edges source sink : ℕ) (low : List ℤ) (below : List ℕ) (hi
       let a = append_none ends (lower ++ upper) h in
       let b = append_none lower upper a.1 in
       record { ends_two = a.0; low_room = b.0; high_room = b.1 }
+
+-- what the operation stands on
+pub ruleset range_steps = (range_ends, range_lower, range_upper, room_flows)

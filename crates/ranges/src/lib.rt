@@ -8,20 +8,19 @@ ghost use Rattle.questions.specs.inner.Lent.{OpenSheet};
 ghost use Rattle.ranges.specs.Range.{span_checks, RangeFound};
 
 use arrays::{Demand, Sizes, Terminals};
-use maximum::Maximum;
-use refusals::Verdict;
+use refusals::Refusal;
 
-// What is answered: the least and the largest value, that nothing at all can be carried, or the number of a refusal and its place.
-#[derive(Clone, Copy)]
-pub enum RangeAnswer {
-    Values(i32, i32),
-    None,
-    Refused(u8, u16),
+// The least and the largest value that can be carried.
+#[derive(Clone, Copy, Debug, PartialEq, Eq)]
+pub struct Range {
+    pub least: i32,
+    pub largest: i32,
 }
 
 // The least and the largest value from source to sink: the highest flow of the least in `low`, a set that proves the next lower value impossible in `below`,
 // the highest flow of the largest in `high`, a set that proves the next greater one impossible in `above`. Or one set, in `below` and `above`, that proves that
 // nothing can be carried, with both slices of flows left as they were.
+#[tactic(auto, using(crate::proofs::Ranging::range_steps))]
 pub fn least_and_largest<'a>(
     tails: &'a [u16; 1024],
     rotations: &'a [u16; 1024],
@@ -37,7 +36,7 @@ pub fn least_and_largest<'a>(
     below: &mut [u64],
     high: &mut [i32],
     above: &mut [u64],
-) -> RangeAnswer
+) -> Result<Option<Range>, Refusal>
     requires { OpenSheet sizes tails.now rotations.now lefts.now capacities.now order.now from.now grouped.now starts.now }
     ensures { RangeFound (drawing_of sizes.nodes sizes.edges sizes.outer tails.now rotations.now capacities.now)
         (span_checks sizes.nodes sizes.edges terminals.source terminals.sink
@@ -45,18 +44,9 @@ pub fn least_and_largest<'a>(
         terminals.source terminals.sink low.old low.new below.old below.new
         high.old high.new above.old above.new result }
 {
-    let named = questions::check_ends(sizes.nodes, terminals.source, terminals.sink);
-    if let Verdict::Refused(k, p) = named {
-        return RangeAnswer::Refused(k, p);
-    }
-    let low_room = questions::check_room(sizes.nodes, sizes.edges, low.len(), below.len());
-    if let Verdict::Refused(k, p) = low_room {
-        return RangeAnswer::Refused(k, p);
-    }
-    let high_room = questions::check_room(sizes.nodes, sizes.edges, high.len(), above.len());
-    if let Verdict::Refused(k, p) = high_room {
-        return RangeAnswer::Refused(k, p);
-    }
+    questions::check_ends(sizes.nodes, terminals.source, terminals.sink)?;
+    questions::check_room(sizes.nodes, sizes.edges, low.len(), below.len())?;
+    questions::check_room(sizes.nodes, sizes.edges, high.len(), above.len())?;
     let edges = sizes.edges;
     let words = node_sets::words_for(sizes.nodes);
     let mut inside = [0u8; 1024];
@@ -77,9 +67,9 @@ pub fn least_and_largest<'a>(
         &mut inside,
     );
     node_sets::write_set(&inside, sizes.nodes, &mut above[0..words]);
-    let Maximum::Value(largest) = most else {
+    let Some(largest) = most else {
         node_sets::write_set(&inside, sizes.nodes, &mut below[0..words]);
-        return RangeAnswer::None;
+        return Ok(None);
     };
     let exchanged = Demand {
         source: terminals.sink,
@@ -103,8 +93,11 @@ pub fn least_and_largest<'a>(
         &mut inside,
     );
     node_sets::write_set(&inside, sizes.nodes, &mut below[0..words]);
-    if let Maximum::Value(v) = back {
-        return RangeAnswer::Values(maximum::negate(v), largest);
+    if let Some(v) = back {
+        return Ok(Some(Range {
+            least: maximum::negate(v),
+            largest,
+        }));
     }
-    RangeAnswer::None
+    Ok(None)
 }

@@ -16,7 +16,7 @@ use Rattle.records.specs.Check.{CapacityOutside, number_checks, edge_checks}
 use Rattle.records.specs.Sheet.{kind_of, headLength, nodes_of, edges_of, outer_of, edge_at, capacity_of, sheet_map, sheet_drawing}
 use Rattle.records.specs.Sheet.{head_record_checks, head_checks, edge_record_checks, byte_checks}
 use Rattle.records.proofs.Record.{record_kind, edge_body}
-use Rattle.records.proofs.Head.{head_kind, head_lengths, head_body}
+use Rattle.records.proofs.Heads.{head_kind, head_lengths, head_body}
 use Rattle.records.proofs.Drawing.{counts_range, outer_range, drawing_range, drawing_capacities, drawing_pairs}
 
 -- ── the head ──

@@ -18,7 +18,7 @@ use Rattle.records.specs.Sheet.{kind_of, headLength, nodes_of, edges_of, edge_af
 use Rattle.records.specs.Encode.{encode_head, plain_head, encode_edge, encode_edges, encode, encode_plain}
 use Rattle.records.proofs.Fields.{tail_even, tail_odd, rotation_even, rotation_odd, capacity_even, capacity_odd, tail_past, rotation_past, capacity_past}
 use Rattle.records.proofs.Places.{edge_length, StandsAt, edge_stands, stands_inside, first_stands, u16_stands, i32_stands}
-use Rattle.records.proofs.Head.{kind_one_outer, kind_four_outer}
+use Rattle.records.proofs.Heads.{kind_one_outer, kind_four_outer}
 use Rattle.records.proofs.Encodable.{Encodable}
 
 -- ── a head of the drawing, and its edges ──

@@ -13,7 +13,7 @@ use Rattle.records.specs.Sheet.{nodes_of, edges_of, outer_of, edge_at, sheet_dra
 use Rattle.records.specs.Encode.{encode_head, plain_head, encode, encode_plain}
 use Rattle.records.proofs.Places.{front_length}
 use Rattle.records.proofs.Record.{record_passes}
-use Rattle.records.proofs.Head.{head_passes}
+use Rattle.records.proofs.Heads.{head_passes}
 use Rattle.records.proofs.Encodable.{Encodable}
 use Rattle.records.proofs.Decode.{headed, HeadOf, outer_head, plain-head, kind_of_edge, sheet_headed}
 

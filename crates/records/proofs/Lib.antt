@@ -1,6 +1,6 @@
 -- Records and fields of a sheet: the byte checks, what they leave, and the round trip.
 pub mod Record
-pub mod Head
+pub mod Heads
 pub mod Fields
 pub mod Drawing
 pub mod KindOne
@@ -13,5 +13,4 @@ pub mod Encodable
 pub mod Decode
 pub mod EncodeAccepted
 pub mod RoundTripExample
-pub mod Deciding
 pub mod EdgeRead

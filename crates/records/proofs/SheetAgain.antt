@@ -14,7 +14,7 @@ use Rattle.records.specs.Sheet.{kind_of, headLength, nodes_of, edges_of, edge_at
 use Rattle.records.specs.Encode.{encode_head, encode_edge, encode_edges, encode}
 use Rattle.records.proofs.Fields.{tail_even, tail_odd, rotation_even, rotation_odd, capacity_even, capacity_odd}
 use Rattle.records.proofs.Bytes.{bytes_length, bytes_kinds}
-use Rattle.records.proofs.Head.{head_long, kind_one_outer, kind_four_outer}
+use Rattle.records.proofs.Heads.{head_long, kind_one_outer, kind_four_outer}
 
 -- ── the first field of what stands at `at`, and the m bytes after it ──
 module _ (s : List ℕ) (bytes : (i : ℕ) → get_or s i 0 < 256) (at next m : ℕ) where

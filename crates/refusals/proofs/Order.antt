@@ -7,8 +7,9 @@ use mathlib.Core.List.{List, [], ◌∷◌, ◌++◌}
 use native.Mathlib.Omega.{arith}
 use native.Mathlib.Decide.{ℕ_discrete}
 use Rattle.refusals.specs.Order.{Check, ◌at◌when◌, NoneOf, FirstOf, in_turn, Judged, Decides}
-use Rattle.refusals.specs.declared.Verdict.{Verdict}
-use Rattle.refusals.specs.declared.Verdict.TheVariants.{Passed, Refused}
+use Rattle.std.specs.Prelude.{Result, Ok, Err}
+use Rattle.refusals.specs.declared.Refusal.{Refusal}
+use Rattle.refusals.specs.Refused.{refused}
 
 -- ── two lists joined ──
 pub none_append : (xs ys : List Check) → NoneOf xs → NoneOf ys → NoneOf (xs ++ ys)
@@ -94,19 +95,19 @@ first_one ((i at o when P) ∷ cs) j q k p (inl h) (inr g) = absurd (g.0 h.0)
 first_one ((i at o when P) ∷ cs) j q k p (inr h) (inl g) = absurd (h.0 g.0)
 first_one ((i at o when P) ∷ cs) j q k p (inr h) (inr g) = first_one cs j q k p h.1 g.1
 
-pub judged_one : (cs : List Check) (v w : Verdict) → Judged cs v → Judged cs w → v ≡ w
-judged_one cs Passed Passed h g = refl
-judged_one cs Passed (Refused k p) h g = absurd (first_none cs k p g h)
-judged_one cs (Refused j q) Passed h g = absurd (first_none cs j q h g)
-judged_one cs (Refused j q) (Refused k p) h g = let e = first_one cs j q k p h g in ap₂ Refused e.0 e.1
+pub judged_one : (cs : List Check) (v w : Result Unit Refusal) → Judged cs v → Judged cs w → v ≡ w
+judged_one cs (Ok d) (Ok e) h g = refl
+judged_one cs (Ok d) (Err r) h g = absurd (first_none cs r.number r.place g h)
+judged_one cs (Err r) (Ok d) h g = absurd (first_none cs r.number r.place h g)
+judged_one cs (Err r) (Err t) h g = let e = first_one cs r.number r.place t.number t.place h g in ap₂ refused e.0 e.1
 
--- ── phases: a refusal of the first stands, and after one that passed the next one's verdict does ──
-pub judged_left : (xs ys : List Check) (k p : ℕ) → Judged xs (Refused k p) → Judged (xs ++ ys) (Refused k p)
+-- ── phases: a refusal of the first stands, and after one that passed the next one's answer does ──
+pub judged_left : (xs ys : List Check) (k p : ℕ) → Judged xs (refused k p) → Judged (xs ++ ys) (refused k p)
 judged_left = first_left
 
-pub judged_right : (xs ys : List Check) (v : Verdict) → Judged xs Passed → Judged ys v → Judged (xs ++ ys) v
-judged_right xs ys Passed h g = none_append xs ys h g
-judged_right xs ys (Refused k p) h g = first_right xs ys k p h g
+pub judged_right : (xs ys : List Check) (v : Result Unit Refusal) → NoneOf xs → Judged ys v → Judged (xs ++ ys) v
+judged_right xs ys (Ok done) h g = none_append xs ys h g
+judged_right xs ys (Err r) h g = first_right xs ys r.number r.place h g
 
 -- ── what a test said ──
 pub said_yes : {P : Type 0} {b : Bool} → Decides P b → b ≡ true → P

@@ -5,8 +5,8 @@ use mathlib.Core.Logic.{inl, inr}
 use mathlib.Core.List.{List, [], ◌∷◌, ◌++◌}
 use native.Mathlib.Omega.{arith}
 use Rattle.refusals.specs.Order.{Check, ◌at◌when◌, NoneOf, FirstOf, in_turn, Judged}
-use Rattle.refusals.specs.declared.Verdict.{Verdict}
-use Rattle.refusals.specs.declared.Verdict.TheVariants.{Passed, Refused}
+use Rattle.std.specs.Prelude.{Result, Ok, Err}
+use Rattle.refusals.specs.declared.Refusal.{Refusal}
 
 -- the same numbers and places in the same order, and conditions that follow from each other
 unfoldable pub Same : List Check → List Check → Type 0
@@ -64,6 +64,6 @@ first_same (c ∷ cs) [] n o s h = absurd s
 first_same ((j at q when P) ∷ cs) ((k at p when Q) ∷ ds) n o s (inl h) = inl (s.2 h.0, h.1 ∙ s.0, h.2 ∙ s.1)
 first_same ((j at q when P) ∷ cs) ((k at p when Q) ∷ ds) n o s (inr h) = inr ((λ x. h.0 (s.3 x)), first_same cs ds n o s.4 h.1)
 
-pub judged_same : (cs ds : List Check) (v : Verdict) → Same cs ds → Judged cs v → Judged ds v
-judged_same cs ds Passed s h = none_same cs ds s h
-judged_same cs ds (Refused n o) s h = first_same cs ds n o s h
+pub judged_same : (cs ds : List Check) (v : Result Unit Refusal) → Same cs ds → Judged cs v → Judged ds v
+judged_same cs ds (Ok done) s h = none_same cs ds s h
+judged_same cs ds (Err r) s h = first_same cs ds r.number r.place s h

@@ -1,8 +1,7 @@
 -- Refused in the stated order: a list of checks, and the first of them whose condition holds.
 -- An operation's refusals are ONE list, in the paper's order, so the order is read off the page.
-use Rattle.std.specs.Prelude.{ℕ, zero, suc, ◌≡◌, ◌⊎◌, Bool, true, false, List, [], ◌∷◌, ◌++◌}
-use Rattle.refusals.specs.declared.Verdict.{Verdict}
-use Rattle.refusals.specs.declared.Verdict.TheVariants.{Passed, Refused}
+use Rattle.std.specs.Prelude.{ℕ, zero, suc, ◌≡◌, ◌⊎◌, Bool, true, false, List, [], ◌∷◌, ◌++◌, Result, Ok, Err}
+use Rattle.refusals.specs.declared.Refusal.{Refusal}
 
 infix 0 ◌at◌when◌
 infix 0 ◌when◌
@@ -30,10 +29,10 @@ unfoldable pub in_turn : ℕ → (ℕ → List Check) → List Check
 in_turn zero f = []
 in_turn (suc n) f = in_turn n f ++ f n
 
--- the verdict of a function that makes these checks: passed where none holds, else refused by the first that does
-abbrev pub Judged : List Check → Verdict → Type 0
-Judged cs Passed = NoneOf cs
-Judged cs (Refused k p) = FirstOf cs k p
+-- the answer of a function that makes these checks: Ok where none holds, else the first that does
+abbrev pub Judged : List Check → Result Unit Refusal → Type 0
+Judged cs (Ok done) = NoneOf cs
+Judged cs (Err r) = FirstOf cs r.number r.place
 
 -- a test that says whether P holds
 abbrev pub Decides : Type 0 → Bool → Type 0

@@ -4,7 +4,8 @@ use mathlib.Core.Logic.{inl, inr}
 use native.Mathlib.Omega.{arith}
 use Rattle.integers.proofs.Tests.{every, every_below}
 use Rattle.refusals.specs.Order.{FirstOf, Judged}
-use Rattle.refusals.specs.declared.Verdict.TheVariants.{Passed, Refused}
+use Rattle.std.specs.Prelude.{ℕ, Ok}
+use Rattle.refusals.specs.Refused.{refused}
 use Rattle.maps.specs.Map.{Map}
 use Rattle.maps.specs.Face.{faces, left}
 use Rattle.maps.specs.Check.{NodeFault}
@@ -13,11 +14,11 @@ use Rattle.rotations.specs.MapChecks.{map_checks, MapJudged}
 use Rattle.rotations.proofs.Accepted.{no_rotation_fault, no_node_fault, passes}
 
 -- drawing A
-a_passes : MapJudged A (left A) (faces A) Passed
-a_passes = (passes a_sound a_flat, (λ d l. refl), refl)
+a_passes : (parts : ℕ) → MapJudged A (left A) (Ok (record { faces = faces A; parts = parts }))
+a_passes parts = (passes a_sound a_flat, (λ d l. refl), refl)
 
 -- "A with turns 1→3→5→1 at node 1": one face only
-twisted_refused : Judged (map_checks twisted_a) (Refused 12 0)
+twisted_refused : Judged (map_checks twisted_a) (refused 12 0)
 unfolding FirstOf map_checks
 twisted_refused =
     inr (
@@ -33,6 +34,6 @@ bare_node : NodeFault with_bare_node
 unfolding every
 bare_node = (2, omega arith, inl (λ d l e. omega (arith, every_below 6 A.tail (λ d. 2) refl d l)))
 
-bare_refused : Judged (map_checks with_bare_node) (Refused 10 0)
+bare_refused : Judged (map_checks with_bare_node) (refused 10 0)
 unfolding FirstOf map_checks
 bare_refused = inr (no_rotation_fault a_sound, inl (bare_node, refl, refl))

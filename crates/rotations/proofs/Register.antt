@@ -1,17 +1,12 @@
 -- Laws of registers, and the checks 9 and 10 decided by them.
 use mathlib.Core.Path.{◌≡◌, refl, sym, ◌∙◌, ap}
 use mathlib.Core.Logic.{◌⊎◌, inl, inr, ◌≢◌}
-use mathlib.Core.List.{List}
 use Prim.Native.Nat.{ℕ, ◌+◌, ◌<◌}
 use native.Mathlib.Omega.{arith}
-use native.Mathlib.Decide.{ℕ_discrete}
-use lib.ListN.{length, set}
-use lib.Seq.{get_or-set_same, get_or-set_other}
 use Rattle.maps.specs.Orbit.{orbit_of, Permutes}
 use Rattle.maps.specs.Map.{Map, darts}
 use Rattle.maps.specs.Check.{InRange, RotationFault, NodeFault}
 use Rattle.maps.proofs.Numbering.{orbit_of_along, orbit_of_same}
-use Rattle.arrays.specs.At.{at}
 use Rattle.rotations.specs.inner.Register.{Register, Clash}
 
 -- ── entering places one by one ──
@@ -21,32 +16,6 @@ register_none key value table h = record { entered = λ d l. absurd (omega arith
 module _ {key value table : ℕ → ℕ} {n : ℕ} (ρ : Register key value table n) where
   abbrev From : (ℕ → ℕ) → ℕ → ℕ → Type 0
   From t m k = (t k ≡ 0) ⊎ ((d : ℕ) × (d < m) × (key d ≡ k) × (t k ≡ value d + 1))
-
-  -- the key has this entry already
-  pub register_same : table (key n) ≡ value n + 1 → Register key value table (n + 1)
-  register_same h = record { entered = λ d l. each d l (ℕ_discrete d n); from = λ k. more k (ρ.from k) }
-    where
-      each : (d : ℕ) → d < n + 1 → Dec (d ≡ n) → table (key d) ≡ value d + 1
-      each d l (yes p) = rw p h
-      each d l (no p) = ρ.entered d (omega (arith, p))
-
-      more : (k : ℕ) → From table n k → From table (n + 1) k
-      more k (inl e) = inl e
-      more k (inr r) = inr (r.0, omega (arith, r.1), r.2, r.3)
-
-  -- the key is new
-  new_entry : (table' : ℕ → ℕ) → table (key n) ≡ 0 → table' (key n) ≡ value n + 1
-      → ((k : ℕ) → k ≢ key n → table' k ≡ table k) → Register key value table' (n + 1)
-  new_entry table' z put other = record { entered = λ d l. each d l (ℕ_discrete d n); from = λ k. more k (ℕ_discrete k (key n)) (ρ.from k) }
-    where
-      each : (d : ℕ) → d < n + 1 → Dec (d ≡ n) → table' (key d) ≡ value d + 1
-      each d l (yes p) = rw p put
-      each d l (no p) = let q = ρ.entered d (omega (arith, p)) in other (key d) (λ e. omega (arith, q, z, ap table e)) ∙ q
-
-      more : (k : ℕ) → Dec (k ≡ key n) → From table n k → From table' (n + 1) k
-      more k (yes p) r = inr (n, omega arith, sym p, rw p put)
-      more k (no p) (inl e) = inl (other k p ∙ e)
-      more k (no p) (inr r) = inr (r.0, omega (arith, r.1), r.2, other k p ∙ r.3)
 
   -- the key has an entry: some earlier place has this key
   pub earlier : table (key n) ≢ 0 → (d : ℕ) × (d < n) × (key d ≡ key n) × (table (key n) ≡ value d + 1)
@@ -60,20 +29,8 @@ module _ {key value table : ℕ → ℕ} {n : ℕ} (ρ : Register key value tabl
   pub clash : {m : ℕ} → n < m → table (key n) ≢ 0 → table (key n) ≢ value n + 1 → Clash key value m
   clash l h g = let r = earlier h in (r.0, n, omega (arith, r.1), l, r.2, λ e. g (r.3 ∙ ap (λ x. x + 1) e))
 
--- a new key, in an array: k and v are the key and the entry as the code has them
-pub register_new : {key value : ℕ → ℕ} {n : ℕ} (table : List ℕ) (k v : ℕ)
-    → Register key value (at table) n → k < length table → k ≡ key n → v ≡ value n + 1 → at table k ≡ 0
-    → Register key value (at (set table k v)) (n + 1)
-register_new table k v ρ l is_key is-value z =
-    new_entry ρ (at (set table k v)) (ap (at table) (sym is_key) ∙ z)
-    (ap (at (set table k v)) (sym is_key) ∙ get_or-set_same table k v 0 l ∙ is-value)
-    (λ y h. get_or-set_other table k y v 0 (λ e. h (e ∙ is_key)))
-
 -- ── 9: the rotations are the keys, and the darts the values ──
 module _ (𝓜 : Map) {table : ℕ → ℕ} where
-  pub rotation_twice : {d : ℕ} → Register 𝓜.rotation (λ c. c) table d → d < darts 𝓜 → table (𝓜.rotation d) ≢ 0 → RotationFault 𝓜
-  rotation_twice {d} ρ l h = let r = earlier ρ h in inr (r.0, d, r.1, l, r.2)
-
   pub rotation_good : Register 𝓜.rotation (λ c. c) table (darts 𝓜) → ((d : ℕ) → d < darts 𝓜 → 𝓜.tail (𝓜.rotation d) ≡ 𝓜.tail d) → RotationFault 𝓜 → ⊥
   rotation_good ρ keeps (inl r) = r.2 (keeps r.0 r.1)
   rotation_good ρ keeps (inr r) =

@@ -2,8 +2,8 @@
 use mathlib.Core.Path.{◌≡◌, sym, subst}
 use mathlib.Core.List.{List}
 use Prim.Native.Nat.{ℕ}
-use Rattle.refusals.specs.declared.Verdict.{Verdict}
-use Rattle.refusals.specs.declared.Verdict.TheVariants.{Passed, Refused}
+use Rattle.std.specs.Prelude.{Result, Ok, Err}
+use Rattle.refusals.specs.declared.Refusal.{Refusal}
 use Rattle.arrays.specs.At.{at}
 use Rattle.arrays.specs.Maps.{right_of}
 use Rattle.traversal.specs.inner.Forest.{Forest}
@@ -13,18 +13,19 @@ use Rattle.grouping.specs.inner.InRounds.{InRounds}
 use Rattle.grouping.specs.inner.Walked.{Walked}
 use Rattle.rotations.specs.inner.Laying.{step_of}
 use Rattle.rotations.specs.inner.Passing.{IfPassed}
+use Rattle.rotations.specs.declared.Counted.{Counted}
 
 module _ {darts outer parts : ℕ} (rotations order from : List ℕ) (𝓕 : Forest darts (at rotations) outer (at order) (at from) parts)
     (came : FirstCome (at rotations) outer (at order) (at from) darts) where
-  pub walked_if : (v : Verdict) (faces trees : ℕ) (lefts grouped starts : List ℕ)
-      → IfPassed v ((trees ≡ parts) × Grouped (right_of lefts) darts faces grouped starts
-      × InRounds darts (step_of rotations) faces (at grouped) (at starts))
-      → IfPassed v (Walked darts faces outer trees (at rotations) lefts order from grouped starts)
-  walked_if Passed faces trees lefts grouped starts h =
+  pub walked_if : (r : Result Counted Refusal) (lefts grouped starts : List ℕ)
+      → IfPassed r (λ c. (c.parts ≡ parts) × Grouped (right_of lefts) darts c.faces grouped starts
+      × InRounds darts (step_of rotations) c.faces (at grouped) (at starts))
+      → IfPassed r (λ c. Walked darts c.faces outer c.parts (at rotations) lefts order from grouped starts)
+  walked_if (Ok c) lefts grouped starts h =
       record {
         forest = subst (Forest darts (at rotations) outer (at order) (at from)) (sym h.0) 𝓕;
         groups = h.1;
         first_come = came;
         in-rounds = h.2;
       }
-  walked_if (Refused k p) faces trees lefts grouped starts h = tt
+  walked_if (Err r) lefts grouped starts h = tt

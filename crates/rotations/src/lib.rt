@@ -2,7 +2,7 @@
 // Each is decided in work that grows as the number of darts, and check 12 leaves the faces numbered in order of their lowest darts.
 #![tactic(auto)]
 
-ghost use Rattle.std.specs.Prelude.{◌≡◌, ◌≢◌, ℕ, ◌+◌, ◌*◌, ◌<◌, ◌≤◌, length};
+ghost use Rattle.std.specs.Prelude.{◌≡◌, ℕ, ◌+◌, ◌*◌, ◌<◌, ◌≤◌, length, MatchOption};
 ghost use Rattle.refusals.specs.Order.{Decides};
 ghost use Rattle.maps.specs.Orbit.{orbits, orbit_of, Permutes};
 ghost use Rattle.maps.specs.Walk.{Components};
@@ -23,7 +23,7 @@ ghost use Rattle.rotations.specs.inner.Passing.{IfPassed};
 ghost use Rattle.rotations.specs.MapChecks.{MapJudged};
 
 use arrays::{narrow, wide};
-use refusals::Verdict;
+use refusals::{Refusal, refused};
 
 // The label of a place that has no number yet. Numbers stay below 1,024.
 const UNMARKED: u16 = 65535;
@@ -36,6 +36,7 @@ fn mark_orbit(next: &[u16; 1024], n: usize, start: usize, number: u16, label: &m
     ensures { (length label.new ≡ 1024) × Marked n (at next.now) (at label.old) (at label.new) start number }
 {
     let mut x = start;
+    // A loop with no count: it walks along the orbit until it is back at the start.
     loop {
         label[x] = number;
         x = wide(next[x]);
@@ -53,13 +54,11 @@ fn number_orbits(next: &[u16; 1024], n: usize, label: &mut [u16; 1024]) -> usize
 {
     traversal::unmark_all(label);
     let mut f: usize = 0;
-    let mut d: usize = 0;
-    while d < n {
+    for d in 0..n {
         if label[d] == UNMARKED {
             mark_orbit(next, n, d, narrow(f), label);
             f += 1;
         }
-        d += 1;
     }
     f
 }
@@ -76,17 +75,12 @@ fn rotation_fault<'a>(
 {
     let darts = 2 * edges;
     let mut origin = [0u16; 1024];
-    let mut d: usize = 0;
-    while d < darts {
+    for d in 0..darts {
         let t = wide(rotations[d]);
-        if tails[t] != tails[d] {
-            return true;
-        }
-        if origin[t] != 0 {
+        if tails[t] != tails[d] || origin[t] != 0 {
             return true;
         }
         origin[t] = narrow(d + 1);
-        d += 1;
     }
     false
 }
@@ -102,8 +96,7 @@ fn enter_all<'a>(
         × ((d : ℕ) → d < n → at keys.now d < 1024) × ((d : ℕ) → d < n → at values.now d < 1024) }
     ensures { (length table.new ≡ 1024) × Entered (at keys.now) (at values.now) (at table.new) n result }
 {
-    let mut d: usize = 0;
-    while d < n {
+    for d in 0..n {
         let k = wide(keys[d]);
         let entry = wide(values[d]) + 1;
         let old = wide(table[k]);
@@ -112,7 +105,6 @@ fn enter_all<'a>(
         } else if old != entry {
             return true;
         }
-        d += 1;
     }
     false
 }
@@ -122,14 +114,7 @@ fn some_empty(table: &[u16; 1024], n: usize) -> bool
     requires { n ≤ 1024 }
     ensures { Decides ((k : ℕ) × (k < n) × (at table.now k ≡ 0)) result }
 {
-    let mut k: usize = 0;
-    while k < n {
-        if table[k] == 0 {
-            return true;
-        }
-        k += 1;
-    }
-    false
+    table[0..n].contains(&0)
 }
 
 // Check 10: "some node's darts do not form exactly one round, or it has none". Each node is entered with the round of its darts. `round` and `owner` are lent
@@ -149,7 +134,7 @@ fn node_fault<'a>(
 {
     let darts = 2 * edges;
     number_orbits(rotations, darts, &mut *round);
-    *owner = [0u16; 1024];
+    owner.fill(0);
     if enter_all(tails, &*round, darts, &mut *owner) {
         return true;
     }
@@ -180,6 +165,7 @@ fn mark_face(
 {
     let mut x = start;
     let mut begin = end;
+    // A loop with no count: it walks along the face until it is back at the start.
     loop {
         lefts[x] = number;
         let back = arrays::reverse(x);
@@ -217,6 +203,7 @@ fn number_faces(
     let mut f: usize = 0;
     let mut free = darts;
     let mut next: usize = 0;
+    // A while loop: it ends with the last face, before it has looked at every dart.
     while 0 < free {
         let d = next;
         next += 1;
@@ -229,22 +216,11 @@ fn number_faces(
     f
 }
 
-// What the checks found and, where they passed, how many faces and parts there are.
-#[derive(Clone, Copy)]
-pub struct Checked {
-    pub verdict: Verdict,
+// How many faces and parts a map has that passed the checks.
+#[derive(Clone, Copy, Debug, PartialEq, Eq)]
+pub struct Counted {
     pub faces: usize,
     pub parts: usize,
-}
-
-fn refused(number: u8) -> Checked
-    ensures { result.verdict ≡ Verdict.Refused number 0 }
-{
-    Checked {
-        verdict: refusals::refused(number),
-        faces: 0,
-        parts: 0,
-    }
 }
 
 // Check 12, of a map that is sound. Flatness in each part is a matter of the totals (document 02, Job 8): nodes − channels + faces = 2 · parts. `tails` is
@@ -258,31 +234,27 @@ fn check_flat<'a>(
     lefts: &mut [u16; 1024],
     grouped: &mut [u16; 1024],
     starts: &mut [u16; 1024],
-) -> Checked
+) -> Result<Counted, Refusal>
     requires { (edges ≤ 512) × (nodes ≤ 1024) × (length lefts.old ≡ 1024) × (length grouped.old ≡ 1024)
         × (length starts.old ≡ 1024) × Sound (map_of nodes edges tails.now rotations.now)
         × (parts ≤ 2 * edges) × ((part : ℕ → ℕ) × Components (map_of nodes edges tails.now rotations.now) parts part) }
     ensures { (length lefts.new ≡ 1024) × (length grouped.new ≡ 1024)
         × (length starts.new ≡ 1024)
-        × MapJudged (map_of nodes edges tails.now rotations.now) (at lefts.new) result.faces result.verdict
-        × IfPassed result.verdict ((result.parts ≡ parts)
-        × Grouped (right_of lefts.new) (2 * edges) result.faces grouped.new starts.new
-        × InRounds (2 * edges) (step_of rotations.now) result.faces
+        × MapJudged (map_of nodes edges tails.now rotations.now) (at lefts.new) result
+        × IfPassed result (λ c. (c.parts ≡ parts)
+        × Grouped (right_of lefts.new) (2 * edges) c.faces grouped.new starts.new
+        × InRounds (2 * edges) (step_of rotations.now) c.faces
         (at grouped.new) (at starts.new)) }
 {
     let faces = number_faces(rotations, edges, lefts, grouped, starts);
     if nodes + faces != edges + 2 * parts {
         return refused(12);
     }
-    Checked {
-        verdict: Verdict::Passed,
-        faces: faces,
-        parts: parts,
-    }
+    Ok(Counted { faces, parts })
 }
 
-// Walks over all darts from `outer` on, part by part, and answers how many parts there are; 0 where the darts of some node are not one round, or it has none:
-// then 9 or 10 holds, and which of them is not told. `owner` is lent for the work, all zeros.
+// Walks over all darts from `outer` on, part by part, and answers how many parts there are; none where the darts of some node are not one round, or it has
+// none: then 9 or 10 holds, and which of them is not told. `owner` is lent for the work, all zeros.
 fn walk_nodes<'a>(
     tails: &'a [u16; 1024],
     rotations: &'a [u16; 1024],
@@ -292,25 +264,22 @@ fn walk_nodes<'a>(
     order: &mut [u16; 1024],
     from: &mut [u16; 1024],
     owner: &mut [u16; 1024],
-) -> usize
+) -> Option<usize>
     requires { (edges ≤ 512) × (nodes ≤ 1024) × (outer < 2 * edges) × (length order.old ≡ 1024) × (length from.old ≡ 1024)
         × InRange (map_of nodes edges tails.now rotations.now) × (length owner.old ≡ 1024) × ((v : ℕ) → at owner.old v ≡ 0) }
     ensures { (length order.new ≡ 1024) × (length from.new ≡ 1024)
-        × (result ≢ 0 → Sound (map_of nodes edges tails.now rotations.now)
-        × Forest (2 * edges) (at rotations.now) outer (at order.new) (at from.new) result
+        × MatchOption result (Sound (map_of nodes edges tails.now rotations.now) → ⊥)
+        (λ parts. Sound (map_of nodes edges tails.now rotations.now)
+        × Forest (2 * edges) (at rotations.now) outer (at order.new) (at from.new) parts
         × FirstCome (at rotations.now) outer (at order.new) (at from.new) (2 * edges))
-        × (result ≡ 0 → Sound (map_of nodes edges tails.now rotations.now) → ⊥)
         × (length owner.new ≡ 1024) }
 {
     let darts = 2 * edges;
-    let trees = traversal::spread_rounds(tails, rotations, darts, outer, order, from, &mut *owner);
-    if trees == 0 {
-        return 0;
-    }
+    let trees = traversal::spread_rounds(tails, rotations, darts, outer, order, from, &mut *owner)?;
     if some_empty(&*owner, nodes) {
-        return 0;
+        return None;
     }
-    trees
+    Some(trees)
 }
 
 // The checks 9, 10 and 12 one by one, for the number of the first that holds, of a map that is not sound.
@@ -325,14 +294,14 @@ fn check_in_turn<'a>(
     from: &mut [u16; 1024],
     grouped: &mut [u16; 1024],
     starts: &mut [u16; 1024],
-) -> Checked
+) -> Result<Counted, Refusal>
     requires { (edges ≤ 512) × (nodes ≤ 1024) × (outer < 2 * edges) × (length lefts.old ≡ 1024) × (length order.old ≡ 1024)
         × (length from.old ≡ 1024) × (length grouped.old ≡ 1024) × (length starts.old ≡ 1024)
         × InRange (map_of nodes edges tails.now rotations.now) × (Sound (map_of nodes edges tails.now rotations.now) → ⊥) }
     ensures { (length lefts.new ≡ 1024) × (length order.new ≡ 1024) × (length from.new ≡ 1024)
         × (length grouped.new ≡ 1024) × (length starts.new ≡ 1024)
-        × MapJudged (map_of nodes edges tails.now rotations.now) (at lefts.new) result.faces result.verdict
-        × IfPassed result.verdict (Walked (2 * edges) result.faces outer result.parts (at rotations.now) lefts.new
+        × MapJudged (map_of nodes edges tails.now rotations.now) (at lefts.new) result
+        × IfPassed result (λ c. Walked (2 * edges) c.faces outer c.parts (at rotations.now) lefts.new
         order.new from.new grouped.new starts.new) }
 {
     if rotation_fault(tails, rotations, nodes, edges) {
@@ -360,17 +329,17 @@ pub fn check_map<'a>(
     from: &mut [u16; 1024],
     grouped: &mut [u16; 1024],
     starts: &mut [u16; 1024],
-) -> Checked
+) -> Result<Counted, Refusal>
     requires { (edges ≤ 512) × (nodes ≤ 1024) × (outer < 2 * edges) × (length lefts.old ≡ 1024) × (length order.old ≡ 1024)
         × (length from.old ≡ 1024) × (length grouped.old ≡ 1024) × (length starts.old ≡ 1024)
         × InRange (map_of nodes edges tails.now rotations.now) × ((d : ℕ) → at lefts.old d ≡ 0) }
     ensures { (length lefts.new ≡ 1024) × (length order.new ≡ 1024) × (length from.new ≡ 1024)
         × (length grouped.new ≡ 1024) × (length starts.new ≡ 1024)
-        × MapJudged (map_of nodes edges tails.now rotations.now) (at lefts.new) result.faces result.verdict
-        × IfPassed result.verdict (Walked (2 * edges) result.faces outer result.parts (at rotations.now) lefts.new
+        × MapJudged (map_of nodes edges tails.now rotations.now) (at lefts.new) result
+        × IfPassed result (λ c. Walked (2 * edges) c.faces outer c.parts (at rotations.now) lefts.new
         order.new from.new grouped.new starts.new) }
 {
-    let parts = walk_nodes(
+    let Some(parts) = walk_nodes(
         tails,
         rotations,
         nodes,
@@ -379,12 +348,11 @@ pub fn check_map<'a>(
         order,
         from,
         &mut *lefts,
-    );
-    if parts == 0 {
+    ) else {
         return check_in_turn(
             tails, rotations, nodes, edges, outer, lefts, order, from, grouped, starts,
         );
-    }
+    };
     check_flat(
         tails, rotations, nodes, edges, parts, lefts, grouped, starts,
     )

@@ -28,15 +28,15 @@ use Rattle.search.specs.Look.{Crosses, done, keep, lower, LookAt}
 use Rattle.search.specs.Straightening.{marked, Ascent, Follows, leaves, keeps, falls, Descends, down, upward_of, Straightens, end, ring, next}
 use Rattle.search.specs.Straightening as straightening
 use Rattle.search.specs.Trace.{Step, look, straighten, Goes, stay, go, Ends, first_looks, start, Searches}
-use Rattle.search.specs.declared.Outcome.{Outcome}
-use Rattle.search.specs.declared.Outcome.TheVariants as outcome
-use Rattle.search.specs.declared.Straightened.{Straightened}
 use Rattle.search.specs.inner.Progress.{Descending}
 use Rattle.search.proofs.Descent.{p_in, follow_on}
 use Rattle.search.proofs.Sweeping.{Swept, swept_none, begins, swept_more}
 use Rattle.search.proofs.Run.{PassingAt, bound_wide, bound_few, step_passing, goes_passing}
 use Rattle.search.proofs.Ending.{start_passing}
 use Rattle.search.proofs.Determined.{searches_one}
+use Rattle.std.proofs.Common.{Ok, Err, Result}
+use Rattle.search.specs.Outcome.{Outcome}
+use Rattle.search.specs.declared.Ring.{Ring}
 
 -- ── one dart ──
 module _ (lefts lefts' : List ℕ) (lengths lengths' : List ℤ) (d d' : ℕ) (same : d ≡ d')
@@ -165,7 +165,7 @@ module _ {darts faces : ℕ} {lefts lefts' : List ℕ} {lengths lengths' : List 
         down (follows_alike (same k (omega arith)) (p_in lefts lengths darts faces roots sound wide thin h) w)
         (descends_alike (follow_on lefts lengths darts faces roots sound wide thin h w) (λ j l. same j (omega (arith, l))) q)
 
-    straightens_alike : {f deep : ℕ} {marks : List ℕ} {t u : Tables} {r : Straightened} → Swept lefts lengths darts faces roots sound t first b f marks deep
+    straightens_alike : {f deep : ℕ} {marks : List ℕ} {t u : Tables} {r : Result ℕ Ring} → Swept lefts lengths darts faces roots sound t first b f marks deep
         → Straightens lefts lengths darts faces f marks t u r → Straightens lefts' lengths' darts faces f marks t u r
     straightens_alike s (end l e) = end l e
     straightens_alike {f} {marks = marks} {t} s (ring count l a c e) =
@@ -224,7 +224,7 @@ module _ {darts faces : ℕ} {lefts lefts' : List ℕ} {lengths lengths' : List 
 
     module _ (roots : List ℕ) (sound : WellFormed (dual G roots)) where
       -- the straightening that begins at c
-      whole_alike : (c : Configuration) {u : Tables} {r : Straightened} → PassingAt (dual G roots) c
+      whole_alike : (c : Configuration) {u : Tables} {r : Result ℕ Ring} → PassingAt (dual G roots) c
           → Straightens lefts lengths darts faces 0 straightening.unmarked c.tables u r
           → Straightens lefts' lengths' darts faces 0 straightening.unmarked c.tables u r
       whole_alike c r w =
@@ -241,8 +241,8 @@ module _ {darts faces : ℕ} {lefts lefts' : List ℕ} {lengths lengths' : List 
       goes_alike r (go s p) = go (step_alike r s) (goes_alike (step_passing G roots sound γ r s) p)
 
       ends_alike : (c : Configuration) → PassingAt (dual G roots) c → (u : Tables) (o : Outcome) → Ends G c u o → Ends G' c u o
-      ends_alike c r u outcome.Settled h = h
-      ends_alike c r u (outcome.Ring d) h = (h.0, whole_alike c r h.1)
+      ends_alike c r u (Ok _) h = h
+      ends_alike c r u (Err x) h = (h.0, whole_alike c r h.1)
 
     module _ (queue : List ℕ) (roots : ℕ) (size : length queue ≡ 1024) (few : roots ≤ 1024)
         (sound : WellFormed (dual G (take roots queue))) (joined : Joined (dual G (take roots queue))) where

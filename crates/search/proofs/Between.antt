@@ -24,7 +24,6 @@ use Rattle.search.specs.Trace.{Step, look, straighten, Goes, stay, go}
 use Rattle.search.specs.History.{Event, fell, looked, crossed, followed, descended, straight, stepped, history, first_levels}
 use Rattle.search.specs.History.{FellSince, now, before_fall, before_look}
 use Rattle.search.specs.Waiting.{WaitsAt, Waits}
-use Rattle.search.specs.declared.Straightened.{Straightened}
 use Rattle.search.specs.inner.Progress.{Passing, Descending, heights}
 use Rattle.search.proofs.Change.{Changed}
 use Rattle.search.proofs.Stages.{Fell}
@@ -32,6 +31,8 @@ use Rattle.search.proofs.Trying.{Trying, off_flag, try_left, try_keep, try_lower
 use Rattle.search.proofs.Descent.{y_in, follow_on, falls_fell}
 use Rattle.search.proofs.Sweeping.{Swept, swept_none, begins, swept_more}
 use Rattle.search.proofs.Run.{PassingAt, bound, bound_wide, bound_few, bound_look, look_trying, step_passing}
+use Rattle.search.specs.declared.Ring.{Ring}
+use Rattle.std.proofs.Common.{Result}
 
 -- ── the flags tell who fell since it was last looked at ──
 pub record Told (faces : ℕ) (waiting : List ℕ) (past : List Event) : Type 0 where
@@ -147,7 +148,7 @@ module _ (lefts : List ℕ) (lengths : List ℤ) (darts faces : ℕ) (roots : Li
   descends_kept h (down w q) =
       kept_then (omega arith) (follows_kept h w) (descends_kept (follow_on lefts lengths darts faces roots sound wide thin h w) q)
 
-  straightens_told : {f deep : ℕ} {marks : List ℕ} {t u : Tables} {r : Straightened} (past : List Event)
+  straightens_told : {f deep : ℕ} {marks : List ℕ} {t u : Tables} {r : Result ℕ Ring} (past : List Event)
       → Swept lefts lengths darts faces roots sound t first b f marks deep → (w : Straightens lefts lengths darts faces f marks t u r)
       → Told faces t.waiting past → Told faces u.waiting (straight w past)
   unfolding straight
@@ -157,7 +158,7 @@ module _ (lefts : List ℕ) (lengths : List ℤ) (darts faces : ℕ) (roots : Li
       straightens_told (descended q past) (swept_more lefts lengths darts faces roots sound s l a c wide thin q) w
       (descends_told past (begins lefts lengths darts faces roots sound s l a c) q told)
 
-  pub straightens_kept : {f deep : ℕ} {marks : List ℕ} {t u : Tables} {r : Straightened}
+  pub straightens_kept : {f deep : ℕ} {marks : List ℕ} {t u : Tables} {r : Result ℕ Ring}
       → Swept lefts lengths darts faces roots sound t first b f marks deep → Straightens lefts lengths darts faces f marks t u r → Kept faces first t u
   straightens_kept s (end l e) = kept_all
   straightens_kept s (ring count l a c e) = kept_all

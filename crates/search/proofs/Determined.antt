@@ -19,10 +19,9 @@ use Rattle.search.specs.Look.{Crosses, done, keep, lower}
 use Rattle.search.specs.Straightening.{marked, Ascent, Follows, leaves, keeps, falls, Descends, down, upward_of, Straightens, end, ring, next}
 use Rattle.search.specs.Straightening as straightening
 use Rattle.search.specs.Trace.{period, Step, look, straighten, Goes, stay, go, Ends, start, Searches}
-use Rattle.search.specs.declared.Outcome.{Outcome}
-use Rattle.search.specs.declared.Outcome.TheVariants as outcome
-use Rattle.search.specs.declared.Straightened.{Straightened}
-use Rattle.search.specs.declared.Straightened.TheVariants as straightened
+use Rattle.std.proofs.Common.{Ok, Err, Result}
+use Rattle.search.specs.declared.Ring.{Ring}
+use Rattle.search.specs.Outcome.{Outcome, closed_by}
 
 -- ── one look ──
 same_tables : (t u : Tables) → t.potentials ≡ u.potentials → t.parents ≡ u.parents → t.waiting ≡ u.waiting → t.queue ≡ u.queue
@@ -85,14 +84,14 @@ descends_one straightening.done straightening.done = refl
 descends_one {lefts} {lengths} {upward} {f} {v = z} (down {k = k} s p) (down w q) =
     descends_one p (subst (λ x. Descends lefts lengths upward f k x z) (sym (follows_one s w)) q)
 
-straightens_one : {lefts : List ℕ} {lengths : List ℤ} {darts faces f : ℕ} {marks : List ℕ} {t u v : Tables} {r o : Straightened}
+straightens_one : {lefts : List ℕ} {lengths : List ℤ} {darts faces f : ℕ} {marks : List ℕ} {t u v : Tables} {r o : Result ℕ Ring}
     → Straightens lefts lengths darts faces f marks t u r → Straightens lefts lengths darts faces f marks t v o → (r ≡ o) × (u ≡ v)
-straightens_one (end l e) (end m g) = (ap straightened.Straight (e ∙ sym g), refl)
+straightens_one (end l e) (end m g) = (ap Ok (e ∙ sym g), refl)
 straightens_one (end l e) (ring count m a c d) = absurd (omega arith)
 straightens_one (end l e) (next count m a c q s) = absurd (omega arith)
 straightens_one (ring count l a c e) (end m g) = absurd (omega arith)
 straightens_one {lefts} {f = f} {t = t} (ring count l a c e) (ring count' m b d h) =
-    (ap straightened.Ring (e ∙ ap (λ k. at t.parents (iter (upward_of lefts t) k f)) (ascent_one a b) ∙ sym h), refl)
+    (ap closed_by (e ∙ ap (λ k. at t.parents (iter (upward_of lefts t) k f)) (ascent_one a b) ∙ sym h), refl)
 straightens_one {lefts} {f = f} {marks} {t} (ring count l a c e) (next count' m b d q s) =
     absurd (d (subst (λ k. straightening.Closes f (iter (upward_of lefts t) k f) (marked (upward_of lefts t) f k marks) t)
     (ascent_one a b) c))
@@ -108,22 +107,22 @@ straightens_one {lefts} {lengths} {darts} {faces} {f} {marks} {t} {v = z} {o = o
     (subst (λ k. Straightens lefts lengths darts faces (f + 1) (marked (upward_of lefts t) f k marks) v z o) (sym same) s))
 
 -- ── one step, or an end ──
-not_both : {last d : ℕ} → straightened.Straight last ≡ straightened.Ring d → ⊥
+not_both : {last : ℕ} {r : Ring} → ◌≡◌ {A = Result ℕ Ring} (Ok last) (Err r) → ⊥
 not_both e = let z : ◌≡◌ {A = ℕ} 0 1 = cc in omega arith
 
 module _ (G : Given) (c : Configuration) where
   ends_one : (u v : Tables) (o p : Outcome) → Ends G c u o → Ends G c v p → (o ≡ p) × (u ≡ v)
-  ends_one u v outcome.Settled outcome.Settled h k = (refl, h.2 ∙ sym k.2)
-  ends_one u v outcome.Settled (outcome.Ring d) h k = absurd (omega (arith, h.0, k.0))
-  ends_one u v (outcome.Ring d) outcome.Settled h k = absurd (omega (arith, h.0, k.0))
-  ends_one u v (outcome.Ring d) (outcome.Ring e) h k = let r = straightens_one h.1 k.1 in (let q = r.0 in cc, r.1)
+  ends_one u v (Ok _) (Ok _) h k = (refl, h.2 ∙ sym k.2)
+  ends_one u v (Ok _) (Err y) h k = absurd (omega (arith, h.0, k.0))
+  ends_one u v (Err y) (Ok _) h k = absurd (omega (arith, h.0, k.0))
+  ends_one u v (Err x) (Err y) h k = let r = straightens_one h.1 k.1 in (let q = r.0 in cc, r.1)
 
 -- at an end there is no step on
 ends_stop : {G : Given} {c d : Configuration} (u : Tables) (o : Outcome) → Ends G c u o → Step G c d → ⊥
-ends_stop u outcome.Settled h (look l m q) = omega (arith, h.1)
-ends_stop u (outcome.Ring d) h (look l m q) = omega (arith, h.0)
-ends_stop u outcome.Settled h (straighten l s) = omega (arith, h.0)
-ends_stop u (outcome.Ring d) h (straighten l s) = not_both (straightens_one s h.1).0
+ends_stop u (Ok _) h (look l m q) = omega (arith, h.1)
+ends_stop u (Err x) h (look l m q) = omega (arith, h.0)
+ends_stop u (Ok _) h (straighten l s) = omega (arith, h.0)
+ends_stop u (Err x) h (straighten l s) = not_both (straightens_one s h.1).0
 
 step_one : {G : Given} {c d e : Configuration} → Step G c d → Step G c e → d ≡ e
 step_one {G} {c} (look l m q) (look l' m' q') = ap (λ t. configuration t (c.first + 1) (c.left - 1)) (crosses_one q q')

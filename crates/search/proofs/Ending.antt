@@ -1,5 +1,5 @@
 -- What a search answers follows from how it goes: settled potentials, or a ring.
-use mathlib.Core.Path.{◌≡◌, ◌∙◌, ap, subst}
+use mathlib.Core.Path.{◌≡◌, subst}
 use mathlib.Core.Bool.{Bool, true, false, cond}
 use mathlib.Core.List.{List}
 use Prim.Native.Nat.{ℕ, ◌≤◌}
@@ -15,12 +15,12 @@ use Rattle.search.specs.Moves.{taken_from, Begun}
 use Rattle.search.specs.Given.{Given, dual, InGroups}
 use Rattle.search.specs.Configuration.{Tables, Configuration}
 use Rattle.search.specs.Trace.{period, first_looks, start, Ends, Searches}
-use Rattle.search.specs.declared.Outcome.{Outcome}
-use Rattle.search.specs.declared.Outcome.TheVariants as outcome
 use Rattle.search.proofs.Reached.{settled}
 use Rattle.search.proofs.Beginning.{begun_passing}
-use Rattle.search.proofs.Sweeping.{swept_none, swept_ring, swept_size}
+use Rattle.search.proofs.Sweeping.{swept_none, swept_ring}
 use Rattle.search.proofs.Run.{PassingAt, bound, bound_wide, bound_few, goes_passing}
+use Rattle.std.proofs.Common.{Ok, Err}
+use Rattle.search.specs.Outcome.{Outcome}
 
 module _ (G : Given) (roots : List ℕ) (sound : WellFormed (dual G roots)) where
   module _ (c : Configuration) (r : PassingAt (dual G roots) c) where
@@ -30,16 +30,9 @@ module _ (G : Given) (roots : List ℕ) (sound : WellFormed (dual G roots)) wher
         (λ f l h. let s = r.passing.line.stands f l h in omega (arith, s.1, s.2)) (bound_few G.faces c.left sound.few_faces)
 
     pub end_answer : Joined (dual G roots) → (u : Tables) (o : Outcome) → Ends G c u o → Answer (dual G roots) u.potentials u.parents o
-    end_answer joined u outcome.Settled h = rw h.2 (end_settled joined h.1)
-    end_answer joined u (outcome.Ring d) h =
+    end_answer joined u (Ok _) h = rw h.2 (end_settled joined h.1)
+    end_answer joined u (Err x) h =
         swept_ring G.lefts G.lengths G.darts G.faces roots sound (bound_wide G.faces c.left)
-        (bound_few G.faces c.left sound.few_faces)
-        (swept_none G.lefts G.lengths G.darts G.faces roots sound r.passing) h.1
-
-    pub end_sized : (u : Tables) (o : Outcome) → Ends G c u o → length u.parents ≡ 1024
-    end_sized u outcome.Settled h = ap (λ t. length t.parents) h.2 ∙ r.passing.size_parents
-    end_sized u (outcome.Ring d) h =
-        swept_size G.lefts G.lengths G.darts G.faces roots sound (bound_wide G.faces c.left)
         (bound_few G.faces c.left sound.few_faces)
         (swept_none G.lefts G.lengths G.darts G.faces roots sound r.passing) h.1
 
@@ -72,8 +65,3 @@ module _ (G : Given) (queue : List ℕ) (roots : ℕ) (size : length queue ≡ 1
         subst (λ ρ. Answer (dual G (take roots queue)) ρ parents o) s.potentials_are
         (subst (λ p. Answer (dual G (take roots queue)) s.left.potentials p o) s.parents_are
         (end_answer G (take roots queue) sound s.end at_end joined s.left o s.ended))
-
-    -- the parents are still an array of 1,024
-    pub parents_sized : length parents ≡ 1024
-    parents_sized =
-        subst (λ p. length p ≡ 1024) s.parents_are (end_sized G (take roots queue) sound s.end at_end s.left o s.ended)

@@ -14,13 +14,14 @@ use Rattle.search.specs.Dual.{dual_of, WellFormed}
 use Rattle.search.specs.Level.{HasLevel}
 use Rattle.search.specs.Configuration.{Tables}
 use Rattle.search.specs.Straightening.{unmarked, marked, Descends, done, upward_of, Closes, Straightens, end, ring, next}
-use Rattle.search.specs.declared.Straightened.{Straightened}
-use Rattle.search.specs.declared.Straightened.TheVariants as straightened
 use Rattle.search.specs.inner.Progress.{Lowering, Straightening}
 use Rattle.search.specs.inner.Ascending.{Matched, Ascended, Unlinked}
 use Rattle.search.proofs.Heights.{fresh}
 use Rattle.search.proofs.Marking.{marked_cases, marked_new, marked_size, ascent_inside}
 use Rattle.search.proofs.Sweeping.{Swept, swept_none, begins, swept_more}
+use Rattle.std.proofs.Common.{Ok, Result}
+use Rattle.search.specs.Outcome.{closed_by}
+use Rattle.search.specs.declared.Ring.{Ring}
 
 pub record Pass (lefts : List ℕ) (lengths : List ℤ) (darts faces : ℕ) (start : Tables) (f : ℕ) (links : List ℕ) (now : Tables) : Type 0 where
   pub roots : List ℕ
@@ -36,7 +37,7 @@ pub record Pass (lefts : List ℕ) (lengths : List ℤ) (darts faces : ℕ) (sta
   pub size_links : length links ≡ 1024
   pub matched : Matched marks links
   pub swept : Swept lefts lengths darts faces roots sound now first bound f marks deep
-  pub back : (u : Tables) (r : Straightened) → Straightens lefts lengths darts faces f marks now u r
+  pub back : (u : Tables) (r : Result ℕ Ring) → Straightens lefts lengths darts faces f marks now u r
       → Straightens lefts lengths darts faces 0 unmarked start u r
 
 module _ {lefts : List ℕ} {lengths : List ℤ} {darts faces : ℕ} {start : Tables} where
@@ -58,8 +59,8 @@ module _ {lefts : List ℕ} {lengths : List ℤ} {darts faces : ℕ} {start : Ta
   }
 
   pub pass_last : {f : ℕ} {links : List ℕ} {now : Tables} (last : ℕ) → Pass lefts lengths darts faces start f links now → faces ≤ f → last ≡ now.last
-      → Straightens lefts lengths darts faces 0 unmarked start now (straightened.Straight last)
-  pass_last last h l e = h.back _ (straightened.Straight last) (end l e)
+      → Straightens lefts lengths darts faces 0 unmarked start now (Ok last)
+  pass_last last h l e = h.back _ (Ok last) (end l e)
 
   -- a face of which the link is that of before is not on the way
   off_way : {f x : ℕ} {links : List ℕ} {now : Tables} → Pass lefts lengths darts faces start f links now → x < faces → at links x < 1024 → ⊥
@@ -116,9 +117,9 @@ module _ {lefts : List ℕ} {lengths : List ℤ} {darts faces : ℕ} {start : Ta
     )
 
     pub pass_ring : at links' top < 1024 → HasLevel (atℤ now.potentials) top → (d : ℕ) → d ≡ at now.parents top
-        → Straightens lefts lengths darts faces 0 unmarked start now (straightened.Ring d)
+        → Straightens lefts lengths darts faces 0 unmarked start now (closed_by d)
     pass_ring m has d e =
-        h.back now (straightened.Ring d) (ring count f-in a.ascent (closes_at m has) (e ∙ ap (at now.parents) a.top_is))
+        h.back now (closed_by d) (ring count f-in a.ascent (closes_at m has) (e ∙ ap (at now.parents) a.top_is))
 
     module _ (not_round : at links' top < 1024 → HasLevel (atℤ now.potentials) top → ⊥) where
       open' : Closes f (iter g count f) marks' now → ⊥

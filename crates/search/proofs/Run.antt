@@ -10,13 +10,13 @@ use lib.IntN.{ℤ}
 use Rattle.search.specs.Configuration.{Tables, tables_of, Configuration, configuration, front}
 use Rattle.search.specs.Look.{Crosses, done, keep, lower, taken_up, LookAt}
 use Rattle.search.specs.Straightening.{unmarked, Straightens, end, next}
-use Rattle.search.specs.declared.Straightened.{Straightened}
-use Rattle.search.specs.declared.Straightened.TheVariants as straightened
 use Rattle.search.specs.Trace.{period, Step, look, straighten, Goes, stay, go}
 use Rattle.search.specs.inner.Progress.{Passing}
 use Rattle.search.proofs.Stages.{stage_weaken}
 use Rattle.search.proofs.Trying.{Trying, begin_trying, try_keep, try_lower, tried}
 use Rattle.search.proofs.Sweeping.{swept_none, swept_straight}
+use Rattle.search.specs.declared.Ring.{Ring}
+use Rattle.std.proofs.Common.{Ok, Result}
 
 -- how many darts a level is long at most: each look may add as many as a face has
 abbrev pub bound : ℕ → ℕ → ℕ
@@ -71,7 +71,7 @@ module _ (G : Given) (roots : List ℕ) (sound : WellFormed (dual G roots)) (g :
 -- ── the steps, as the code comes by them ──
 -- a straightening that ends straight tells the end of the queue
 straight_last : {lefts : List ℕ} {lengths : List ℤ} {darts faces f e : ℕ} {marks : List ℕ} {t u : Tables}
-    → Straightens lefts lengths darts faces f marks t u (straightened.Straight e) → e ≡ u.last
+    → Straightens lefts lengths darts faces f marks t u (Ok e) → e ≡ u.last
 straight_last (end l q) = q
 straight_last (next count l a c q w) = straight_last w
 
@@ -79,15 +79,15 @@ pub looks : {G : Given} {c : Configuration} {u : Tables} (i : ℕ) → i ≡ fro
     → Step G c (configuration u (c.first + 1) (c.left - 1))
 looks {G} {c} {u} i e l m q = look l m (subst (λ x. LookAt G x c.tables u) e q)
 
-pub straightens : (G : Given) (c : Configuration) → c.left ≡ 0 → (ρ : List ℤ) (parents waiting queue : List ℕ) (x e : ℕ) (o : Straightened)
-    → o ≡ straightened.Straight e
+pub straightens : (G : Given) (c : Configuration) → c.left ≡ 0 → (ρ : List ℤ) (parents waiting queue : List ℕ) (x e : ℕ) (o : Result ℕ Ring)
+    → o ≡ Ok e
     → Straightens G.lefts G.lengths G.darts G.faces 0 unmarked c.tables (tables_of ρ parents waiting queue x) o
     → Step G c (configuration (tables_of ρ parents waiting queue e) c.first (period G.faces))
 straightens G c l ρ parents waiting queue x e o is w =
     let v = subst (Straightens G.lefts G.lengths G.darts G.faces 0 unmarked c.tables (tables_of ρ parents waiting queue x)) is w in
     straighten l
     (subst (λ y. Straightens G.lefts G.lengths G.darts G.faces 0 unmarked c.tables (tables_of ρ parents waiting queue y)
-    (straightened.Straight e)) (sym (straight_last v)) v)
+    (Ok e)) (sym (straight_last v)) v)
 
 -- ── runs joined ──
 pub goes_then : {G : Given} {c d e : Configuration} → Goes G c d → Goes G d e → Goes G c e

@@ -17,14 +17,14 @@ use Rattle.search.specs.Parents.{ParentRing}
 use Rattle.search.specs.Level.{HasLevel}
 use Rattle.search.specs.Configuration.{Tables}
 use Rattle.search.specs.Straightening.{unmarked, marked, Ascent, Follows, Descends, done, down, upward_of, Closes, Straightens, end, ring, next}
-use Rattle.search.specs.declared.Straightened.{Straightened}
-use Rattle.search.specs.declared.Straightened.TheVariants as straightened
 use Rattle.search.specs.inner.Progress.{Passing, Descending}
 use Rattle.search.proofs.Turning.{bounded}
 use Rattle.search.proofs.Heights.{fresh, fresh_few}
 use Rattle.search.proofs.Chains.{ring_of, parent_ring}
 use Rattle.search.proofs.Marking.{marked_size, marked_cases, marked_new, marked_stays, ascent_inside, ascent_apart, ascent_few}
 use Rattle.search.proofs.Descent.{follow_on, follow_parents, follow_others}
+use Rattle.std.proofs.Common.{Ok}
+use Rattle.search.specs.Outcome.{closed_by}
 
 module _ (lefts : List ℕ) (lengths : List ℤ) (darts faces : ℕ) (roots : List ℕ) (sound : WellFormed (dual_of lefts lengths darts faces roots)) where
   abbrev N : Dual
@@ -278,13 +278,13 @@ module _ (lefts : List ℕ) (lengths : List ℤ) (darts faces : ℕ) (roots : Li
 
   module _ {first b : ℕ} (wide : 1024 ≤ b) (thin : b < 1600000) where
     pub swept_straight : {t u : Tables} {f deep last : ℕ} {marks : List ℕ} → Swept t first b f marks deep
-        → Straightens lefts lengths darts faces f marks t u (straightened.Straight last) → (last ≡ u.last) × Passing N u first 1024
+        → Straightens lefts lengths darts faces f marks t u (Ok last) → (last ≡ u.last) × Passing N u first 1024
     swept_straight s (end l e) = (e, swept_all s l)
     swept_straight s (next count l a c q w) = swept_straight (swept_more s l a c wide thin q) w
 
     -- what a ring is answered with
     pub swept_ring : {t u : Tables} {f deep d : ℕ} {marks : List ℕ} → Swept t first b f marks deep
-        → Straightens lefts lengths darts faces f marks t u (straightened.Ring d)
+        → Straightens lefts lengths darts faces f marks t u (closed_by d)
         → (d < darts) × (at u.parents (at lefts d) ≡ d) × ParentRing N (at u.parents) (at lefts d) × Ring N (at lefts d)
     swept_ring {t} {f = f} {d = d} s (ring count l a c e) =
         let r = round s l a c in
@@ -296,10 +296,3 @@ module _ (lefts : List ℕ) (lengths : List ℤ) (darts faces : ℕ) (roots : Li
           subst (Ring N) (sym left) (ring_of r),
         )
     swept_ring s (next count l a c q w) = swept_ring (swept_more s l a c wide thin q) w
-
-    -- the arrays keep their lengths
-    pub swept_size : {t u : Tables} {f deep : ℕ} {marks : List ℕ} {r : Straightened} → Swept t first b f marks deep
-        → Straightens lefts lengths darts faces f marks t u r → length u.parents ≡ 1024
-    swept_size s (end l e) = s.passing.size_parents
-    swept_size s (ring count l a c e) = s.passing.size_parents
-    swept_size s (next count l a c q w) = swept_size (swept_more s l a c wide thin q) w

@@ -1,6 +1,6 @@
 -- What happened to the faces on a run of the search: one fell, or was looked at. Document 02, Job 3: "take up only faces whose level fell since they were last
 -- looked at, first come first; a first level counts as a fall".
-use Rattle.std.specs.Prelude.{◌≡◌, List, [], ◌∷◌, ℕ, zero, suc, ℤ}
+use Rattle.std.specs.Prelude.{◌≡◌, List, [], ◌∷◌, ℕ, zero, suc, ℤ, Result}
 use Rattle.arrays.specs.At.{at}
 use Rattle.search.specs.Given.{Given}
 use Rattle.search.specs.Configuration.{Tables, Configuration, front}
@@ -8,7 +8,7 @@ use Rattle.search.specs.Look.{Crosses, done, keep, lower}
 use Rattle.search.specs.Straightening.{Follows, leaves, keeps, falls, Descends, down, Straightens, end, ring, next}
 use Rattle.search.specs.Straightening as straightening
 use Rattle.search.specs.Trace.{Step, look, straighten, Goes, stay, go}
-use Rattle.search.specs.declared.Straightened.{Straightened}
+use Rattle.search.specs.declared.Ring.{Ring}
 
 pub data Event : Type 0 where
   fell : ℕ → Event
@@ -30,7 +30,7 @@ unfoldable pub descended : {lefts : List ℕ} {lengths : List ℤ} {upward : ℕ
 descended straightening.done past = past
 descended (down s q) past = descended q (followed s past)
 
-unfoldable pub straight : {lefts : List ℕ} {lengths : List ℤ} {darts faces f : ℕ} {marks : List ℕ} {t u : Tables} {r : Straightened}
+unfoldable pub straight : {lefts : List ℕ} {lengths : List ℤ} {darts faces f : ℕ} {marks : List ℕ} {t u : Tables} {r : Result ℕ Ring}
     → Straightens lefts lengths darts faces f marks t u r → List Event → List Event
 straight (end l e) past = past
 straight (ring count l a h e) past = past

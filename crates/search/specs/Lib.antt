@@ -6,6 +6,7 @@ pub mod Moves
 pub mod Given
 pub mod Configuration
 pub mod Look
+pub mod Outcome
 pub mod Straightening
 pub mod Trace
 pub mod History

@@ -12,7 +12,7 @@ use Rattle.search.specs.Straightening.{unmarked, Within}
 use Rattle.search.specs.Trace.{Goes, start, Searches}
 use Rattle.search.specs.History.{Event, history, first_levels, FellSince}
 use Rattle.search.specs.Waiting.{WaitsAt, Waits}
-use Rattle.search.specs.declared.Outcome.{Outcome}
+use Rattle.search.specs.Outcome.{Outcome}
 
 -- a search from the faces at the first places of `queue`, with some parents proposed, has come to c, between two looks
 pub record ComesTo (G : Given) (queue : List ℕ) (roots : ℕ) (c : Configuration) : Type 0 where

@@ -1,6 +1,6 @@
 -- A straightening: every face falls to the length of its own walk of parents. The faces are gone through by number. From each the parents are followed up,
 -- through faces that were not met yet; then down again, each face follows its parent. A face that is met twice in one ascent is on a ring of parents.
-use Rattle.std.specs.Prelude.{◌≡◌, true, false, List, ℕ, zero, suc, ◌+◌, ◌≤◌, ◌<◌, set, replicate, ℤ}
+use Rattle.std.specs.Prelude.{◌≡◌, true, false, List, ℕ, zero, suc, ◌+◌, ◌≤◌, ◌<◌, set, replicate, ℤ, Ok, Result}
 use Rattle.maps.specs.Orbit.{iter}
 use Rattle.arrays.specs.At.{at, atℤ}
 use Rattle.arrays.specs.Maps.{right_of}
@@ -9,8 +9,8 @@ use Rattle.search.specs.Level.{HasLevel, far}
 use Rattle.search.specs.Queue.{Pushed}
 use Rattle.search.specs.Moves.{Relaxed}
 use Rattle.search.specs.Configuration.{Tables, tables_of}
-use Rattle.search.specs.declared.Straightened.{Straightened}
-use Rattle.search.specs.declared.Straightened.TheVariants as straightened
+use Rattle.search.specs.Outcome.{closed_by}
+use Rattle.search.specs.declared.Ring.{Ring}
 
 -- ── up ──
 -- at first no face is marked: 1024 is the number of no face
@@ -57,13 +57,13 @@ abbrev pub Closes : (f y : ℕ) (marks : List ℕ) → Tables → Type 0
 Closes f y marks t = (at marks y ≡ f) × HasLevel (atℤ t.potentials) y
 
 -- the faces from f on are gone through; it ends straight, with the end of the queue, or with the dart that closes a ring of parents
-pub data Straightens (lefts : List ℕ) (lengths : List ℤ) (darts faces : ℕ) : (f : ℕ) → List ℕ → Tables → Tables → Straightened → Type 0 where
+pub data Straightens (lefts : List ℕ) (lengths : List ℤ) (darts faces : ℕ) : (f : ℕ) → List ℕ → Tables → Tables → Result ℕ Ring → Type 0 where
   end : {f last : ℕ} {marks : List ℕ} {t : Tables} → faces ≤ f → last ≡ t.last
-      → Straightens lefts lengths darts faces f marks t t (straightened.Straight last)
+      → Straightens lefts lengths darts faces f marks t t (Ok last)
   ring : {f d : ℕ} {marks : List ℕ} {t : Tables} (count : ℕ) → f < faces → Ascent (upward_of lefts t) darts t.parents marks f count
       → Closes f (iter (upward_of lefts t) count f) (marked (upward_of lefts t) f count marks) t → d ≡ at t.parents (iter (upward_of lefts t) count f)
-      → Straightens lefts lengths darts faces f marks t t (straightened.Ring d)
-  next : {f : ℕ} {marks : List ℕ} {t u v : Tables} {r : Straightened} (count : ℕ) → f < faces → Ascent (upward_of lefts t) darts t.parents marks f count
+      → Straightens lefts lengths darts faces f marks t t (closed_by d)
+  next : {f : ℕ} {marks : List ℕ} {t u v : Tables} {r : Result ℕ Ring} (count : ℕ) → f < faces → Ascent (upward_of lefts t) darts t.parents marks f count
       → (Closes f (iter (upward_of lefts t) count f) (marked (upward_of lefts t) f count marks) t → ⊥)
       → Descends lefts lengths (upward_of lefts t) f count t u
       → Straightens lefts lengths darts faces (f + 1) (marked (upward_of lefts t) f count marks) u v r → Straightens lefts lengths darts faces f marks t v r

@@ -1,14 +1,12 @@
 -- How the search goes, look by look. What it leaves follows from what it is given: `one_end` of `specs/Statements.antt`. The configurations that a run comes to
 -- are the moments "between looks" of which document 02, Job 3, speaks.
-use Rattle.std.specs.Prelude.{◌≡◌, cond, List, ℕ, ◌+◌, ◌-◌, ◌/◌, ◌<◌, eqb, ℤ}
+use Rattle.std.specs.Prelude.{◌≡◌, cond, List, ℕ, ◌+◌, ◌-◌, ◌/◌, ◌<◌, eqb, ℤ, Ok, Err}
 use Rattle.search.specs.Moves.{taken_from, Begun}
 use Rattle.search.specs.Given.{Given}
 use Rattle.search.specs.Configuration.{Tables, tables_of, Configuration, configuration, front}
 use Rattle.search.specs.Look.{LookAt}
 use Rattle.search.specs.Straightening.{unmarked, Straightens}
-use Rattle.search.specs.declared.Outcome.{Outcome}
-use Rattle.search.specs.declared.Outcome.TheVariants as outcome
-use Rattle.search.specs.declared.Straightened.TheVariants as straightened
+use Rattle.search.specs.Outcome.{Outcome}
 
 -- the looks between two straightenings: 3/2 as many as there are faces, and one at least. Free to choose: whatever it is, the search ends with one of its
 -- answers.
@@ -20,7 +18,7 @@ pub data Step (G : Given) : Configuration → Configuration → Type 0 where
   look : {c : Configuration} {u : Tables} → 0 < c.left → c.first < c.tables.last → LookAt G (front c) c.tables u
       → Step G c (configuration u (c.first + 1) (c.left - 1))
   straighten : {c : Configuration} {u : Tables} → c.left ≡ 0
-      → Straightens G.lefts G.lengths G.darts G.faces 0 unmarked c.tables u (straightened.Straight u.last)
+      → Straightens G.lefts G.lengths G.darts G.faces 0 unmarked c.tables u (Ok u.last)
       → Step G c (configuration u c.first (period G.faces))
 
 pub data Goes (G : Given) : Configuration → Configuration → Type 0 where
@@ -29,8 +27,8 @@ pub data Goes (G : Given) : Configuration → Configuration → Type 0 where
 
 -- how it ends, and what it leaves: no face waits, or a straightening comes to a ring
 abbrev pub Ends : Given → Configuration → Tables → Outcome → Type 0
-Ends G c u outcome.Settled = (0 < c.left) × (c.first ≡ c.tables.last) × (u ≡ c.tables)
-Ends G c u (outcome.Ring d) = (c.left ≡ 0) × Straightens G.lefts G.lengths G.darts G.faces 0 unmarked c.tables u (straightened.Ring d)
+Ends G c u (Ok _) = (0 < c.left) × (c.first ≡ c.tables.last) × (u ≡ c.tables)
+Ends G c u (Err r) = (c.left ≡ 0) × Straightens G.lefts G.lengths G.darts G.faces 0 unmarked c.tables u (Err r)
 
 -- the looks before the first straightening: none where some face has a parent of the proposal, so that the first levels are laid; else there is nothing to lay
 abbrev pub first_looks : (faces taken : ℕ) → ℕ

@@ -31,24 +31,16 @@ ghost use Rattle.search.specs.inner.Ascending.{Matched, Ascended, Unlinked};
 ghost use Rattle.search.specs.inner.Taking.{Taking};
 ghost use Rattle.search.specs.Level.{far};
 
-// What stands in the place of a level where a face has none yet.
+// What stands in the place of a level where a face has none yet: an Option would double the array, and memory is fixed.
 const FAR: i64 = 2000000000000000;
 
 // The link of a face that has followed its parent in this straightening.
 const DONE: u16 = 1025;
 
-// Settled potentials, or the dart that closes a ring.
-#[derive(Clone, Copy)]
-pub enum Outcome {
-    Settled,
-    Ring(usize),
-}
-
-// No parents lead round, and the end of the queue; or the dart that closes a ring.
-#[derive(Clone, Copy)]
-enum Straightened {
-    Straight(usize),
-    Ring(usize),
+// A ring of parents: the dart that closes it.
+#[derive(Clone, Copy, Debug, PartialEq, Eq)]
+pub struct Ring {
+    pub dart: usize,
 }
 
 // How many faces an ascent went through, the last of them, and the face that it came to.
@@ -96,7 +88,8 @@ fn push(waiting: &mut [u8; 1024], queue: &mut [u16; 1024], f: usize, last: usize
     last + 1
 }
 
-// Whether p can be the parent of the face f: a dart with f on its left.
+// Whether p can be the parent of the face f: a dart with f on its left. 1024, which is no dart, stands for no parent: an Option would double the array, and
+// memory is fixed. So it is with the links, where 1024 stands for no link yet.
 fn is_sensible(lefts: &[u16; 1024], darts: usize, f: usize, p: usize) -> bool
     requires { darts ≤ 1024 }
     ensures { result ≡ sensible lefts.now darts f p }
@@ -121,13 +114,6 @@ fn take_parents(lefts: &[u16; 1024], darts: usize, faces: usize, parents: &mut [
     taken
 }
 
-// 1 where a parent is proposed, else 0.
-fn proposed(p: u16) -> u16
-    ensures { (result ≤ 1) × (result ≡ 0 → p ≡ 1024) }
-{
-    if p == 1024 { 0 } else { 1 }
-}
-
 // Whether 1024 stands for every face: no parent is proposed. A sum of 16 bits, which the compiler adds up eight faces at a time.
 fn none_proposed(parents: &[u16; 1024], faces: usize) -> bool
     requires { faces ≤ 1024 }
@@ -135,7 +121,7 @@ fn none_proposed(parents: &[u16; 1024], faces: usize) -> bool
 {
     let mut some: u16 = 0;
     for f in 0..faces {
-        some += proposed(parents[f]);
+        some += u16::from(parents[f] != 1024);
     }
     some == 0
 }
@@ -213,18 +199,12 @@ fn ascend(
     let mut y = f;
     let mut below = f;
     let mut count: usize = 0;
-    loop {
+    // A loop: it walks up over parents, until a face has none or has a link.
+    'up: loop {
         let p = arrays::wide(parents[y]);
-        if darts <= p {
+        if darts <= p || links[y] != 1024 {
             return Risen {
-                count: count,
-                last: below,
-                top: y,
-            };
-        }
-        if links[y] != 1024 {
-            return Risen {
-                count: count,
+                count,
                 last: below,
                 top: y,
             };
@@ -300,11 +280,9 @@ fn descend(
         (tables_of potentials.new parents.new waiting.new queue.new result)
         × Unlinked (up (right_of lefts.now) (at parents.old)) f 0 count links.old links.new }
 {
-    let mut k = count;
     let mut y = from;
     let mut end = last;
-    while 0 < k {
-        k -= 1;
+    for _k in 0..count {
         let below = arrays::wide(links[y]);
         links[y] = DONE;
         end = follow(
@@ -346,7 +324,7 @@ fn straighten(
     waiting: &mut [u8; 1024],
     queue: &mut [u16; 1024],
     last: usize,
-) -> Straightened
+) -> Result<usize, Ring>
     requires { Straightening (dual_of lefts.now lengths.now darts faces)
         (tables_of potentials.old parents.old waiting.old queue.old last) }
     ensures { (end : ℕ) × Straightens lefts.now lengths.now darts faces 0 unmarked
@@ -360,7 +338,8 @@ fn straighten(
         if 0 < risen.count {
             let top = risen.top;
             if is_round(&*potentials, &links, top) {
-                return Straightened::Ring(arrays::wide(parents[top]));
+                let dart = arrays::wide(parents[top]);
+                return Err(Ring { dart });
             }
             end = descend(
                 lefts,
@@ -379,7 +358,7 @@ fn straighten(
             );
         }
     }
-    Straightened::Straight(end)
+    Ok(end)
 }
 
 // Where the group of the face f ends: behind the last dart, or where the group of the face before it starts.
@@ -417,12 +396,11 @@ fn look(
         (tables_of potentials.new parents.new waiting.new queue.new result) }
 {
     waiting[i] = 0;
-    let mut j = arrays::wide(starts[i]);
+    let start = arrays::wide(starts[i]);
     let e = group_end(starts, darts, i);
     let mut end = last;
-    while j < e {
+    for j in start..e {
         let d = arrays::wide(order[j]);
-        j += 1;
         let f = arrays::wide(lefts[d]);
         if relax(lefts, lengths, &mut *potentials, &mut *parents, i, d) {
             end = push(&mut *waiting, &mut *queue, f, end);
@@ -448,7 +426,7 @@ pub fn search(
     parents: &mut [u16; 1024],
     waiting: &mut [u8; 1024],
     queue: &mut [u16; 1024],
-) -> Outcome
+) -> Result<(), Ring>
     requires { WellFormed (dual_of lefts.now lengths.now darts faces (take roots queue.old))
         × Joined (dual_of lefts.now lengths.now darts faces (take roots queue.old))
         × Grouped (right_of lefts.now) darts faces order.now starts.now
@@ -472,10 +450,11 @@ pub fn search(
     let mut first: usize = 0;
     let mut last: usize = roots;
     let mut left = first_looks(faces, taken);
-    let outcome = 'search: loop {
-        while 0 < left {
+    // Both answers come by a labelled break and not by `?`: that the search ends so is a rule of the project (docs/MANUAL.md, "The shape each place takes").
+    'search: loop {
+        for _k in 0..left {
             if first == last {
-                break 'search Outcome::Settled;
+                break 'search Ok(());
             }
             let i = arrays::wide(queue[first % 1024]);
             last = look(
@@ -493,7 +472,6 @@ pub fn search(
                 i,
             );
             first += 1;
-            left -= 1;
         }
         let pass = straighten(
             lefts,
@@ -507,14 +485,9 @@ pub fn search(
             last,
         );
         match pass {
-            Straightened::Ring(d) => {
-                break 'search Outcome::Ring(d);
-            }
-            Straightened::Straight(end) => {
-                last = end;
-            }
+            Ok(end) => last = end,
+            Err(ring) => break 'search Err(ring),
         }
         left = faces + faces / 2 + 1;
-    };
-    outcome
+    }
 }

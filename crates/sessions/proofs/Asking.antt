@@ -1,28 +1,25 @@
 -- Ask: what is not fit is refused 13; on what is fit the refusals are those of a question.
 use mathlib.Core.Path.{◌≡◌, refl, sym, ◌∙◌, ap, subst}
 use mathlib.Core.Logic.{◌⊎◌, inl, inr}
-use mathlib.Core.Bool.{Bool, true, false, not}
 use mathlib.Core.List.{List, ◌++◌}
 use Prim.Native.Nat.{ℕ, ◌≤◌, ◌<◌}
 use native.Mathlib.Omega.{arith}
 use native.Mathlib.Decide.{dec_lt}
 use lib.ListN.{length}
 use lib.IntN.{ℤ}
+use Rattle.std.specs.Prelude.{Result, Ok, Err}
 use Rattle.refusals.specs.Order.{Check, NoneOf, FirstOf}
-use Rattle.refusals.specs.declared.Verdict.{Verdict}
-use Rattle.refusals.specs.declared.Verdict.TheVariants as verdict
-use Rattle.refusals.proofs.Order.{first_none}
+use Rattle.refusals.specs.declared.Refusal.{Refusal}
 use Rattle.refusals.proofs.Same.{Same, same_refl, same_sym, none_same, first_same}
-use Rattle.maps.specs.Map.{darts}
-use Rattle.maps.specs.Face.{faces, left}
+use Rattle.refusals.specs.Refused.{refused}
+use Rattle.maps.specs.Face.{left}
 use Rattle.maps.specs.Drawing.{Drawing}
 use Rattle.arrays.specs.Maps.{drawing_of}
-use Rattle.rotations.specs.MapChecks.{map_checks, MapJudged}
 use Rattle.questions.specs.Question.{end_checks, value_checks, room_checks}
 use Rattle.questions.specs.Solve.{question_checks, Solved}
 use Rattle.questions.specs.inner.Named.{SetNamed}
-use Rattle.questions.specs.declared.SolveAnswer.{SolveAnswer}
-use Rattle.questions.specs.declared.SolveAnswer.TheVariants.{Can, Cannot, Refused}
+use Rattle.questions.specs.declared.Solution.{Solution}
+use Rattle.questions.specs.declared.Solution.TheVariants.{Can, Cannot}
 use Rattle.sessions.specs.Fit.{Fit, OnFit}
 use Rattle.sessions.specs.Ask.{ask_checks}
 
@@ -65,11 +62,12 @@ module _ (𝓓 : Drawing) (source sink : ℕ) (value : ℤ) (flows : List ℤ) (
       back (inr h) = inr (inl h)
 
 -- an answer stands under a list with the same verdict
-pub solved_same : (𝓓 : Drawing) (cs ds : List Check) → Same cs ds → (source sink : ℕ) (value : ℤ) (flows flows' : List ℤ) (set set' : List ℕ) (r : SolveAnswer)
+pub solved_same : (𝓓 : Drawing) (cs ds : List Check) → Same cs ds → (source sink : ℕ) (value : ℤ) (flows flows' : List ℤ) (set set' : List ℕ)
+    (r : Result Solution Refusal)
     → Solved 𝓓 cs source sink value flows flows' set set' r → Solved 𝓓 ds source sink value flows flows' set set' r
-solved_same 𝓓 cs ds s source sink value flows flows' set set' Can h = (none_same cs ds s h.0, h.1, h.2)
-solved_same 𝓓 cs ds s source sink value flows flows' set set' (Cannot n) h = (none_same cs ds s h.0, h.1, h.2)
-solved_same 𝓓 cs ds s source sink value flows flows' set set' (Refused k p) h = (first_same cs ds k p s h.0, h.1, h.2)
+solved_same 𝓓 cs ds s source sink value flows flows' set set' (Ok Can) h = (none_same cs ds s h.0, h.1, h.2)
+solved_same 𝓓 cs ds s source sink value flows flows' set set' (Ok (Cannot n)) h = (none_same cs ds s h.0, h.1, h.2)
+solved_same 𝓓 cs ds s source sink value flows flows' set set' (Err r) h = (first_same cs ds r.number r.place s h.0, h.1, h.2)
 
 -- the counts at the width of an index
 pub drawings_same : {n m o nodes edges outer : ℕ} → n ≡ nodes → m ≡ edges → o ≡ outer → (tails rotations : List ℕ) (left : List ℤ)
@@ -81,7 +79,7 @@ drawings_same {m = m} {o = o} {nodes = nodes} {edges = edges} p q r tails rotati
 
 -- what was answered on a fit drawing, said of the session's
 pub answered : (𝓓 𝓔 : Drawing) → 𝓓 ≡ 𝓔 → Fit 𝓓 → {s source t sink : ℕ} {v value : ℤ} → s ≡ source → t ≡ sink → v ≡ value
-    → (flows flows' : List ℤ) (set set' : List ℕ) (r : SolveAnswer)
+    → (flows flows' : List ℤ) (set set' : List ℕ) (r : Result Solution Refusal)
     → Solved 𝓓 (question_checks 𝓓.map.nodes 𝓓.map.edges s t v flows set) s t v flows flows' set set' r
     → Solved 𝓔 (ask_checks 𝓔 source sink value flows set) source sink value flows flows' set set' r
 answered 𝓓 𝓔 e fit {source = source} {sink = sink} {value = value} from to q flows flows' set set' r h =
@@ -89,27 +87,21 @@ answered 𝓓 𝓔 e fit {source = source} {sink = sink} {value = value} from to
     (solved_same 𝓓 _ _ (same_sym _ _ (fit_same 𝓓 source sink value flows set fit)) source sink value flows flows' set set' r (rw (from, to, q) at h))
 
 -- the set that the search names, said of the session's drawing; and that this is fit
-pub named_answered : (𝓓 𝓔 : Drawing) → 𝓓 ≡ 𝓔 → {s source t sink : ℕ} {v value : ℤ} → s ≡ source → t ≡ sink → v ≡ value → (set' : List ℕ) (r : SolveAnswer)
+pub named_answered : (𝓓 𝓔 : Drawing) → 𝓓 ≡ 𝓔 → {s source t sink : ℕ} {v value : ℤ} → s ≡ source → t ≡ sink → v ≡ value
+    → (set' : List ℕ) (r : Result Solution Refusal)
     → SetNamed 𝓓 s t v set' r → SetNamed 𝓔 source sink value set' r
 named_answered 𝓓 𝓔 e {source = source} {sink = sink} {value = value} from to q set' r h =
     subst (λ 𝓕. SetNamed 𝓕 source sink value set' r) e (rw (from, to, q) at h)
 
-pub fit_answered : (𝓓 𝓔 : Drawing) → 𝓓 ≡ 𝓔 → Fit 𝓓 → (r : SolveAnswer) → OnFit 𝓔 r
-fit_answered 𝓓 𝓔 e fit Can = subst Fit e fit
-fit_answered 𝓓 𝓔 e fit (Cannot n) = subst Fit e fit
-fit_answered 𝓓 𝓔 e fit (Refused k p) = tt
+pub fit_answered : (𝓓 𝓔 : Drawing) → 𝓓 ≡ 𝓔 → Fit 𝓓 → (r : Result Solution Refusal) → OnFit 𝓔 r
+fit_answered 𝓓 𝓔 e fit (Ok Can) = subst Fit e fit
+fit_answered 𝓓 𝓔 e fit (Ok (Cannot n)) = subst Fit e fit
+fit_answered 𝓓 𝓔 e fit (Err r) = tt
 
 pub unfit_answered : (𝓓 𝓔 : Drawing) → 𝓓 ≡ 𝓔 → (Fit 𝓓 → ⊥) → (source sink : ℕ) (value : ℤ) (flows : List ℤ) (set : List ℕ)
-    → FirstOf (ask_checks 𝓔 source sink value flows set) 13 0
-unfit_answered 𝓓 𝓔 e unfit source sink value flows set = unfit_refused 𝓔 source sink value flows set (λ f. unfit (subst Fit (sym e) f))
-
--- the map checks refused: the drawing is not fit
-pub map_refused : (𝓓 : Drawing) (lefts : ℕ → ℕ) (count k p : ℕ) {v : Verdict} → v ≡ verdict.Refused k p → MapJudged 𝓓.map lefts count v → Fit 𝓓 → ⊥
-map_refused 𝓓 lefts count k p e h fit = first_none (map_checks 𝓓.map) k p (subst (MapJudged 𝓓.map lefts count) e h) fit.passes
-
-pub map_passed : (𝓓 : Drawing) (lefts : ℕ → ℕ) (count : ℕ) {v : Verdict} → v ≡ verdict.Passed → MapJudged 𝓓.map lefts count v
-    → NoneOf (map_checks 𝓓.map) × ((d : ℕ) → d < darts 𝓓.map → lefts d ≡ left 𝓓.map d) × (count ≡ faces 𝓓.map)
-map_passed 𝓓 lefts count e h = subst (MapJudged 𝓓.map lefts count) e h
+    → Solved 𝓔 (ask_checks 𝓔 source sink value flows set) source sink value flows flows set set (refused 13 0)
+unfit_answered 𝓓 𝓔 e unfit source sink value flows set =
+    (unfit_refused 𝓔 source sink value flows set (λ f. unfit (subst Fit (sym e) f)), refl, refl)
 
 -- ── where it can: there is room for the settings, and the edges are few ──
 module _ (𝓓 : Drawing) (source sink : ℕ) (value : ℤ) (flows : List ℤ) (set : List ℕ) (asked : NoneOf (ask_checks 𝓓 source sink value flows set)) where
@@ -124,12 +116,3 @@ module _ (𝓓 : Drawing) (source sink : ℕ) (value : ℤ) (flows : List ℤ) (
   pub asked_room : 𝓓.map.edges ≤ length flows
   unfolding NoneOf ask_checks value_checks room_checks
   asked_room = let h : length flows < 𝓓.map.edges → ⊥ = λ l. asked.1.1.1.0 (inl l) in omega (arith, h)
-
--- a test that is turned over
-pub unless_taken : (b : Bool) → not b ≡ true → b ≡ false
-unless_taken true e = sym e
-unless_taken false e = refl
-
-pub unless_left : (b : Bool) → not b ≡ false → b ≡ true
-unless_left true e = refl
-unless_left false e = sym e

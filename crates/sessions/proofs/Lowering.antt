@@ -13,7 +13,10 @@ use mir.Val.{SFits}
 use Rattle.integers.proofs.Limits.{limited_minus}
 use Rattle.integers.proofs.Omega.{atoms₂, parts, equal}
 use Rattle.integers.proofs.Tests.{eqb_true, eqb_false, ltb_false}
-use Rattle.refusals.specs.Order.{NoneOf}
+use Rattle.std.specs.Prelude.{Result, Ok, Err, is_ok}
+use Rattle.refusals.specs.Order.{NoneOf, Judged, Decides}
+use Rattle.refusals.specs.declared.Refusal.{Refusal}
+use Rattle.refusals.proofs.Order.{first_none}
 use Rattle.signed.proofs.Limits.{limited_fits}
 use Rattle.flows.specs.Settings.{on_darts}
 use Rattle.flows.specs.Check.{within_checks}
@@ -33,6 +36,11 @@ module _ (edges : ℕ) (left offer : ℕ → ℤ) where
 
   pub lowerable_none : Lowerable edges left offer → NoneOf (within_checks edges left offer)
   lowerable_none h = within_none (map_of 0 edges [] []) left offer h.within
+
+  pub judged_lowerable : (r : Result Unit Refusal) → edges ≤ 512 → LimitsFit edges left → Judged (within_checks edges left offer) r
+      → Decides (Lowerable edges left offer) (is_ok r)
+  judged_lowerable (Ok done) few fit none = tested_lowerable few fit none
+  judged_lowerable (Err r) few fit first = λ h. first_none _ _ _ first (lowerable_none h)
 
   -- no difference wraps: the limits left and the flows within them are from -2,000,000 to 2,000,000
   pub lowerable_fits : Lowerable edges left offer → (d : ℕ) → d < 2 * edges → SFits w32 (left d -ℤ on_darts offer d)

@@ -1,14 +1,15 @@
 -- What a session must be for its questions and its offer to mean something. Every part is decided by code, so that any value may be handed in. Document 02,
 -- Job 11: "Handed any other value as a session, a call still comes to an end and a refusal still changes nothing; no single outcome is asked there."
-use Rattle.std.specs.Prelude.{ℕ, ◌+◌, ◌*◌, ◌≤◌, ◌<◌, ℤ, pos, ◌+ℤ◌, ◌≤ℤ◌}
+use Rattle.std.specs.Prelude.{ℕ, ◌+◌, ◌*◌, ◌≤◌, ◌<◌, ℤ, pos, ◌+ℤ◌, ◌≤ℤ◌, Result, Ok, Err}
 use Rattle.refusals.specs.Order.{NoneOf}
+use Rattle.refusals.specs.declared.Refusal.{Refusal}
 use Rattle.maps.specs.Map.{darts}
 use Rattle.maps.specs.Drawing.{Drawing}
 use Rattle.maps.specs.Check.{InRange}
 use Rattle.flows.specs.Settings.{on_darts}
 use Rattle.rotations.specs.MapChecks.{map_checks}
-use Rattle.questions.specs.declared.SolveAnswer.{SolveAnswer}
-use Rattle.questions.specs.declared.SolveAnswer.TheVariants.{Can, Cannot, Refused}
+use Rattle.questions.specs.declared.Solution.{Solution}
+use Rattle.questions.specs.declared.Solution.TheVariants.{Can, Cannot}
 
 -- an edge's two limits left: "Limits left may reach 2,000,000", and they do not add to less than zero
 abbrev pub PairFits : ℤ → ℤ → Type 0
@@ -31,10 +32,10 @@ pub record Fit (𝓓 : Drawing) : Type 0 where
   pub passes : NoneOf (map_checks 𝓓.map)
 
 -- what was not refused was asked of a fit drawing
-abbrev pub OnFit : Drawing → SolveAnswer → Type 0
-OnFit 𝓓 Can = Fit 𝓓
-OnFit 𝓓 (Cannot n) = Fit 𝓓
-OnFit 𝓓 (Refused k p) = Unit
+abbrev pub OnFit : Drawing → Result Solution Refusal → Type 0
+OnFit 𝓓 (Ok Can) = Fit 𝓓
+OnFit 𝓓 (Ok (Cannot n)) = Fit 𝓓
+OnFit 𝓓 (Err r) = Unit
 
 -- the limits left of so many edges can be lowered by an offer: it keeps within them
 pub record Lowerable (edges : ℕ) (left offer : ℕ → ℤ) : Type 0 where

@@ -17,8 +17,8 @@ ghost use Rattle.sessions.specs.Fit.{PairFits, LimitsFit, InBounds, OnFit, Lower
 ghost use Rattle.sessions.specs.Ask.{ask_checks};
 
 use arrays::{Demand, Sizes, wide};
-use questions::SolveAnswer;
-use refusals::Verdict;
+use questions::Solution;
+use refusals::{Refusal, refused};
 
 // Whether every tail is a node and every rotation a dart.
 fn in_range<'a>(
@@ -31,15 +31,13 @@ fn in_range<'a>(
     ensures { Decides (InRange (map_of nodes edges tails.now rotations.now)) result }
 {
     let darts = 2 * edges;
-    let mut d: usize = 0;
-    while d < darts {
+    for d in 0..darts {
         if nodes <= wide(tails[d]) {
             return false;
         }
         if darts <= wide(rotations[d]) {
             return false;
         }
-        d += 1;
     }
     true
 }
@@ -48,24 +46,15 @@ fn in_range<'a>(
 fn pair_fits(forward: i32, back: i32) -> bool
     ensures { Decides (PairFits forward back) result }
 {
-    if back > 2000000 {
-        return false;
-    }
-    if balance::exceeds(2000000, back, forward) {
-        return false;
-    }
-    true
+    back <= 2000000 && !balance::exceeds(2000000, back, forward)
 }
 
 fn limits_fit(left: &[i32; 1024], edges: usize) -> bool
     requires { edges ≤ 512 }
     ensures { Decides (LimitsFit edges (atℤ left.now)) result }
 {
-    let mut e: usize = 0;
-    while e < edges {
-        if pair_fits(left[2 * e], left[2 * e + 1]) {
-            e += 1;
-        } else {
+    for e in 0..edges {
+        if !pair_fits(left[2 * e], left[2 * e + 1]) {
             return false;
         }
     }
@@ -83,19 +72,11 @@ fn in_bounds<'a>(
 ) -> bool
     ensures { Decides (InBounds (drawing_of nodes edges outer tails.now rotations.now left.now)) result }
 {
-    if nodes > 1024 {
-        return false;
-    }
-    if edges > 512 {
-        return false;
-    }
-    if outer >= 2 * edges {
-        return false;
-    }
-    if in_range(tails, rotations, nodes, edges) {
-        return limits_fit(left, edges);
-    }
-    false
+    nodes <= 1024
+        && edges <= 512
+        && outer < 2 * edges
+        && in_range(tails, rotations, nodes, edges)
+        && limits_fit(left, edges)
 }
 
 // Solve's answer on the limits left. A value that is no session is answered 13.
@@ -111,7 +92,7 @@ pub fn answer_left<'a>(
     value: i32,
     flows: &mut [i32],
     set: &mut [u64],
-) -> SolveAnswer
+) -> Result<Solution, Refusal>
     ensures { Solved (drawing_of nodes edges outer tails.now rotations.now left.now)
         (ask_checks (drawing_of nodes edges outer tails.now rotations.now left.now) source sink value
         flows.old set.old)
@@ -123,14 +104,14 @@ pub fn answer_left<'a>(
     let m = wide(edges);
     let o = wide(outer);
     if !in_bounds(tails, rotations, left, n, m, o) {
-        return SolveAnswer::Refused(13, 0);
+        return refused(13);
     }
     let mut lefts = [0u16; 1024];
     let mut order = [0u16; 1024];
     let mut from = [0u16; 1024];
     let mut grouped = [0u16; 1024];
     let mut starts = [0u16; 1024];
-    let checked = rotations::check_map(
+    let Ok(counted) = rotations::check_map(
         tails,
         rotations,
         n,
@@ -141,16 +122,14 @@ pub fn answer_left<'a>(
         &mut from,
         &mut grouped,
         &mut starts,
-    );
-    let verdict = checked.verdict;
-    if let Verdict::Refused(k, p) = verdict {
-        return SolveAnswer::Refused(13, 0);
-    }
+    ) else {
+        return refused(13);
+    };
     let sizes = Sizes {
         nodes: n,
         edges: m,
-        faces: checked.faces,
-        parts: checked.parts,
+        faces: counted.faces,
+        parts: counted.parts,
         outer: o,
     };
     let demand = Demand {
@@ -168,11 +147,7 @@ pub fn keep(flows: &[i32], edges: usize, offer: &mut [i32])
     requires { (edges ≤ length flows.now) × (edges ≤ length offer.old) }
     ensures { offer.new ≡ filled edges (atℤ flows.now) offer.old }
 {
-    let mut e: usize = 0;
-    while e < edges {
-        offer[e] = flows[e];
-        e += 1;
-    }
+    offer[..edges].copy_from_slice(&flows[..edges]);
 }
 
 // Whether the limits left can be lowered by the offer: it keeps within them.
@@ -180,17 +155,7 @@ pub fn lowerable(left: &[i32; 1024], offer: &[i32], edges: usize) -> bool
     requires { 512 ≤ length offer.now }
     ensures { Decides (Lowerable edges (atℤ left.now) (atℤ offer.now)) result }
 {
-    if edges > 512 {
-        return false;
-    }
-    if limits_fit(left, edges) {
-        let within = balance::check_within(left, edges, offer);
-        if let Verdict::Refused(k, p) = within {
-            return false;
-        }
-        return true;
-    }
-    false
+    edges <= 512 && limits_fit(left, edges) && balance::check_within(left, edges, offer).is_ok()
 }
 
 // What is left of the limit of a dart, where the flow of its edge is let in: less by the dart's own flow.
@@ -212,9 +177,7 @@ pub fn lower(left: &mut [i32], offer: &[i32; 512], edges: usize)
         × (left.new ≡ filled (2 * edges) (λ d. atℤ left.old d -ℤ on_darts (atℤ offer.now) d) left.old) }
 {
     let darts = 2 * edges;
-    let mut d: usize = 0;
-    while d < darts {
+    for d in 0..darts {
         left[d] = lowered_by(left[d], offer[d / 2], d);
-        d += 1;
     }
 }

@@ -4,7 +4,6 @@ pub mod Accepted
 pub mod Reading
 pub mod Placing
 pub mod PlacedRecords
-pub mod EdgeOfSlices
 pub mod Writing
 pub mod ThereAndBack
 pub mod Statements

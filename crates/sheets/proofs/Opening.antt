@@ -1,25 +1,24 @@
 -- Opening a sheet: arrays filled from its bytes are its drawing's functions, everywhere; what the phases of the checks said is what all of them say.
-use mathlib.Core.Path.{◌≡◌, refl, sym, ◌∙◌, ap, subst, fun_ext}
-use mathlib.Core.Bool.{Bool, true, false, cond, not, true≢false}
+use mathlib.Core.Path.{◌≡◌, ◌∙◌, ap, subst, fun_ext}
+use mathlib.Core.Bool.{cond}
 use mathlib.Core.List.{List}
 use Prim.Native.Nat.{ℕ, ◌*◌, ◌≤◌}
 use native.Mathlib.Omega.{arith}
 use lib.Dec.{ltb}
 use lib.ListN.{length}
 use lib.IntN.{ℤ, pos}
+use Rattle.std.specs.Prelude.{Ok, Err}
 use Rattle.refusals.specs.Order.{NoneOf, FirstOf}
-use Rattle.refusals.specs.declared.Verdict.{Verdict}
-use Rattle.refusals.specs.declared.Verdict.TheVariants.{Passed}
-use Rattle.refusals.proofs.Order.{none_append, first_left, first_right}
+use Rattle.refusals.specs.declared.Refusal.{Refusal}
+use Rattle.refusals.proofs.Order.{none_append, first_left, first_right, first_in_turn, none_in_turn}
 use Rattle.arrays.specs.At.{at, atℤ}
 use Rattle.arrays.specs.Maps.{map_of, drawing_of}
+use Rattle.arrays.specs.declared.Sizes.{Sizes}
 use Rattle.arrays.proofs.FillLoops.{Filling, filling_end}
-use Rattle.rotations.specs.MapChecks.{map_checks}
 use Rattle.records.specs.Record.{record_length}
 use Rattle.records.specs.Sheet.{headLength, nodes_of, edges_of, outer_of, edge_at, field16, field32}
 use Rattle.records.specs.Sheet.{tail_of, rotation_of, capacity_of, sheet_map, sheet_drawing, byte_checks}
 use Rattle.records.proofs.Bytes.{head_whole, bytes_head, bytes_length, bytes_counts}
-use Rattle.rotations.specs.inner.Passing.{IfPassed}
 use Rattle.sheets.specs.Open.{sheet_checks, Holds, Opens}
 use Rattle.sheets.specs.declared.Network.{Network}
 
@@ -56,44 +55,15 @@ bytes_room s h =
     let w = head_whole s (bytes_head s h) in
     (omega arith, n.0, n.1, n.2, n.3, omega arith, w.0)
 
--- ── verdicts ──
--- the record of a sheet that is refused, by its bytes or by its map
-module _ (s : List ℕ) (n : Network) (k p : ℕ) (is : (n.accepted ≡ false) × (n.refusal ≡ k) × (n.place ≡ p)) where
-  opens_first : FirstOf (sheet_checks s) k p → Opens s n n.accepted
-  opens_first h = rw (is.0, is.1, is.2) h
+-- ── answers ──
+-- what reading a sheet stands on: the checks on its bytes come before those on its map
+pub ruleset sheet_steps = (none_append, first_left, first_right)
 
-  pub opens_bytes : FirstOf (byte_checks s) k p → Opens s n n.accepted
-  unfolding sheet_checks
-  opens_bytes h = opens_first (first_left (byte_checks s) (map_checks (sheet_map s)) k p h)
-
-  pub opens_map : NoneOf (byte_checks s) → FirstOf (map_checks (sheet_map s)) k p → Opens s n n.accepted
-  unfolding sheet_checks
-  opens_map b h = opens_first (first_right (byte_checks s) (map_checks (sheet_map s)) k p b h)
-
--- nothing is asked of a record that was refused
-pub not_accepted : {b : Bool} {P : Type 0} → b ≡ false → b ≡ true → P
-not_accepted e f = absurd (true≢false (sym f ∙ e))
-
--- both phases passed
-pub sheet_passed : (s : List ℕ) → NoneOf (byte_checks s) → NoneOf (map_checks (sheet_map s)) → NoneOf (sheet_checks s)
-unfolding sheet_checks
-sheet_passed s b m = none_append (byte_checks s) (map_checks (sheet_map s)) b m
+pub ruleset in_turn_steps = (first_in_turn, none_in_turn)
 
 -- what a record that was looked at says
-pub is_accepted : (b : Bool) → not b ≡ false → b ≡ true
-is_accepted true e = refl
-is_accepted false e = absurd (true≢false e)
+pub opens_passed : (s : List ℕ) (n : Network) {sizes : Sizes} → n.opened ≡ Ok sizes → Opens s n n.opened → NoneOf (sheet_checks s) × Holds s n sizes
+opens_passed s n e h = subst (Opens s n) e h
 
-is_refused : (b : Bool) → not b ≡ true → b ≡ false
-is_refused true e = absurd (true≢false (sym e))
-is_refused false e = refl
-
-pub opens_passed : (s : List ℕ) (n : Network) → not n.accepted ≡ false → Opens s n n.accepted → NoneOf (sheet_checks s) × Holds s n
-opens_passed s n e h = subst (Opens s n) (is_accepted n.accepted e) h
-
-pub opens_refused : (s : List ℕ) (n : Network) → not n.accepted ≡ true → Opens s n n.accepted → FirstOf (sheet_checks s) n.refusal n.place
-opens_refused s n e h = subst (Opens s n) (is_refused n.accepted e) h
-
--- what was prepared, where the verdict that was looked at is that it passed
-pub if-passed : {v : Verdict} {P : Type 0} → v ≡ Passed → IfPassed v P → P
-if-passed {P = P} e h = subst (λ v. IfPassed v P) e h
+pub opens_refused : (s : List ℕ) (n : Network) {r : Refusal} → n.opened ≡ Err r → Opens s n n.opened → FirstOf (sheet_checks s) r.number r.place
+opens_refused s n e h = subst (Opens s n) e h

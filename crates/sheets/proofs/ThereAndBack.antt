@@ -10,7 +10,9 @@ use native.Mathlib.Decide.{dec_lt}
 use lib.ListN.{length, get_or, take, drop, get_or-eq_default}
 use lib.Seq.{take_at}
 use lib.IntN.{ℤ, pos}
+use Rattle.std.specs.Prelude.{Result, Ok, Err}
 use Rattle.refusals.specs.Order.{NoneOf, in_turn}
+use Rattle.refusals.specs.declared.Refusal.{Refusal}
 use Rattle.refusals.proofs.Order.{none_append, none_in_turn, first_none}
 use Rattle.rotations.specs.MapChecks.{map_checks}
 use Rattle.maps.specs.Drawing.{Drawing}
@@ -21,7 +23,7 @@ use Rattle.arrays.specs.Filled.{tabulate}
 use Rattle.arrays.proofs.Tabulate.{length_tabulate, get_d_tabulate, get_d_past, tabulate_get_d}
 use Rattle.records.proofs.Fields.{tail_past, rotation_past, capacity_past}
 use Rattle.records.proofs.Bytes.{bytes_length, bytes_head, head_range, bytes_drawn}
-use Rattle.records.proofs.Head.{head_long}
+use Rattle.records.proofs.Heads.{head_long}
 use Rattle.records.proofs.SheetAgain.{encode_sheet, kind_one_encoded}
 use Rattle.records.proofs.Encodable.{ZeroPast, Encodable, sheet_zero_past, encodable_of_checks}
 use Rattle.records.proofs.Places.{encode-length}
@@ -31,10 +33,7 @@ use Rattle.sheets.specs.Open.{sheet_checks}
 use Rattle.sheets.specs.Read.{read_checks, Reads}
 use Rattle.sheets.specs.Write.{edges_in, slices_drawing, drawing_checks, write_checks, Writes}
 use Rattle.sheets.specs.Statements.{as_kind_four}
-use Rattle.sheets.specs.declared.ReadAnswer.{ReadAnswer}
-use Rattle.sheets.specs.declared.ReadAnswer.TheVariants as read
-use Rattle.sheets.specs.declared.WriteAnswer.{WriteAnswer}
-use Rattle.sheets.specs.declared.WriteAnswer.TheVariants as write
+use Rattle.sheets.specs.declared.Counts.{Counts}
 use Rattle.sheets.proofs.Reading.{read_whole}
 use Rattle.sheets.proofs.Accepted.{sheet_bytes, sheet-map}
 use Rattle.sheets.proofs.Writing.{drawing_parts, write_whole}
@@ -93,11 +92,11 @@ module _ (s : List ℕ) where
     size = ap encode_length half
 
     -- Write, given what Read gave, writes the bytes of the sheet's drawing
-    written_again : (out out' : List ℕ) → encode_length (edges_of s) ≤ length out → (a : WriteAnswer)
+    written_again : (out out' : List ℕ) → encode_length (edges_of s) ≤ length out → (a : Result ℕ Refusal)
         → Writes (nodes_of s) (outer_of s) tails rotations capacities out out' a
-        → (a ≡ write.Bytes (encode_length (edges_of s))) × (out' ≡ encode (sheet_drawing s) ++ drop (encode_length (edges_of s)) out)
-    written_again out out' room (write.Refused k p) h =
-        absurd (first_none (write_checks (nodes_of s) (outer_of s) tails rotations capacities out) k p h.0 whole)
+        → (a ≡ Ok (encode_length (edges_of s))) × (out' ≡ encode (sheet_drawing s) ++ drop (encode_length (edges_of s)) out)
+    written_again out out' room (Err f) h =
+        absurd (first_none (write_checks (nodes_of s) (outer_of s) tails rotations capacities out) f.number f.place h.0 whole)
       where
         whole : NoneOf (write_checks (nodes_of s) (outer_of s) tails rotations capacities out)
         whole =
@@ -107,30 +106,30 @@ module _ (s : List ℕ) where
             (omega (arith, length_tabulate m (tail_of s)))
             (subst (λ 𝓓. NoneOf (drawing_checks 𝓓)) (sym slices_are) drawn)
             (omega (arith, size))
-    written_again out out' room (write.Bytes n) h =
-        (ap write.Bytes (h.1 ∙ size), h.2 ∙ ap₂ (λ b k. b ++ drop k out) (ap encode slices_are) (h.1 ∙ size))
+    written_again out out' room (Ok n) h =
+        (ap Ok (h.1 ∙ size), h.2 ∙ ap₂ (λ b k. b ++ drop k out) (ap encode slices_are) (h.1 ∙ size))
 
     -- those are the sheet, where its head is of kind 4
-    pub write_undoes_read : ((i : ℕ) → get_or s i 0 < 256) → kind_of s ≡ 4 → (out out' : List ℕ) → length s ≤ length out → (a : WriteAnswer)
+    pub write_undoes_read : ((i : ℕ) → get_or s i 0 < 256) → kind_of s ≡ 4 → (out out' : List ℕ) → length s ≤ length out → (a : Result ℕ Refusal)
         → Writes (nodes_of s) (outer_of s) tails rotations capacities out out' a
-        → (a ≡ write.Bytes (length s)) × (out' ≡ s ++ drop (length s) out)
+        → (a ≡ Ok (length s)) × (out' ≡ s ++ drop (length s) out)
     write_undoes_read bytes four out out' room a h =
         let long : encode_length (edges_of s) ≡ length s = omega (arith, bytes_length s passed, head_long s 4 four) in
         let w = written_again out out' (omega arith) a h in
-        (w.0 ∙ ap write.Bytes long, w.1 ∙ ap₂ (λ b k. b ++ drop k out) (encode_sheet s bytes passed four) long)
+        (w.0 ∙ ap Ok long, w.1 ∙ ap₂ (λ b k. b ++ drop k out) (encode_sheet s bytes passed four) long)
 
     -- and the sheet with a head of kind 4 that names dart 0, where it is of kind 1: the same drawing
     fits_sheet : Encodable (sheet_drawing s)
     fits_sheet = encodable_of_checks (sheet_drawing s) (head_range s (bytes_head s passed)) (bytes_drawn s passed) (sheet_zero_past s)
 
-    pub kind_one_again : ((i : ℕ) → get_or s i 0 < 256) → kind_of s ≡ 1 → (out out' : List ℕ) → length s + 2 ≤ length out → (a : WriteAnswer)
+    pub kind_one_again : ((i : ℕ) → get_or s i 0 < 256) → kind_of s ≡ 1 → (out out' : List ℕ) → length s + 2 ≤ length out → (a : Result ℕ Refusal)
         → Writes (nodes_of s) (outer_of s) tails rotations capacities out out' a
-        → (a ≡ write.Bytes (length s + 2)) × (out' ≡ as_kind_four s ++ drop (length s + 2) out) × (sheet_drawing (as_kind_four s) ≡ sheet_drawing s)
+        → (a ≡ Ok (length s + 2)) × (out' ≡ as_kind_four s ++ drop (length s + 2) out) × (sheet_drawing (as_kind_four s) ≡ sheet_drawing s)
     kind_one_again bytes one out out' room a h =
         let long : encode_length (edges_of s) ≡ length s + 2 = omega (arith, bytes_length s passed, head_long s 1 one) in
         let w = written_again out out' (omega arith) a h in
         let again = kind_one_encoded s bytes passed one in (
-          w.0 ∙ ap write.Bytes long,
+          w.0 ∙ ap Ok long,
           w.1 ∙ ap₂ (λ b k. b ++ drop k out) again long,
           subst (λ b. sheet_drawing b ≡ sheet_drawing s) again (sheet_encode (sheet_drawing s) fits_sheet),
         )
@@ -185,7 +184,7 @@ module _ (nodes outer : ℕ) (tails rotations : List ℕ) (capacities : List ℤ
   written_kind = refl
 
   -- and it stands at the front of the output
-  pub written_front : (out' : List ℕ) (n : ℕ) → Writes nodes outer tails rotations capacities out out' (write.Bytes n) → take n out' ≡ encode drawing
+  pub written_front : (out' : List ℕ) (n : ℕ) → Writes nodes outer tails rotations capacities out out' (Ok n) → take n out' ≡ encode drawing
   written_front out' n h = ap (take n) h.2 ∙ take_at (encode drawing) (drop n out) n (encode-length drawing ∙ sym h.1)
 
   -- Read, given those bytes, fills the slices that Write was given
@@ -199,17 +198,18 @@ module _ (nodes outer : ℕ) (tails rotations : List ℕ) (capacities : List ℤ
     table_again : {A : Type 0} (z : A) (n : ℕ) (l : List A) (f : ℕ → A) → f ≡ (λ d. get_or l d z) → n ≡ length l → tabulate n f ≡ l
     table_again z n l f e h = ap₂ tabulate h e ∙ tabulate_get_d (length l) l z refl
 
-    counts_are : {n n' e e' o o' : ℕ} → n ≡ n' → e ≡ e' → o ≡ o' → read.Counts n e o ≡ read.Counts n' e' o'
-    counts_are p q r = λ i. read.Counts (p i) (q i) (r i)
+    counts_are : {n e o : ℕ} {told : Counts} → told.nodes ≡ n → told.edges ≡ e → told.outer ≡ o
+        → ◌≡◌ {A = Result Counts Refusal} (Ok told) (Ok (record { nodes = n; edges = e; outer = o }))
+    counts_are p q r = λ i. Ok (record { nodes = p i; edges = q i; outer = r i })
 
-    pub read_undoes_write : (a : ReadAnswer) → Reads (encode drawing) t r c t' r' c' a
-        → (a ≡ read.Counts nodes (edges_in tails) outer)
+    pub read_undoes_write : (a : Result Counts Refusal) → Reads (encode drawing) t r c t' r' c' a
+        → (a ≡ Ok (record { nodes = nodes; edges = edges_in tails; outer = outer }))
         × (t' ≡ tails ++ drop (length tails) t) × (r' ≡ rotations ++ drop (length rotations) r) × (c' ≡ capacities ++ drop (length capacities) c)
-    read_undoes_write (read.Refused k p) h = absurd (first_none (read_checks (encode drawing) t r c) k p h.0 whole)
+    read_undoes_write (Err f) h = absurd (first_none (read_checks (encode drawing) t r c) f.number f.place h.0 whole)
       where
         whole : NoneOf (read_checks (encode drawing) t r c)
         whole = read_whole (encode drawing) t r c written_accepted (omega (arith, same_edges)) (omega (arith, same_edges)) (omega (arith, same_edges))
-    read_undoes_write (read.Counts n e o) h = (
+    read_undoes_write (Ok told) h = (
       counts_are (h.1 ∙ ap (λ 𝓓. 𝓓.map.nodes) read_again) (h.2 ∙ ap (λ 𝓓. 𝓓.map.edges) read_again) (h.3 ∙ ap (λ 𝓓. 𝓓.outer) read_again),
       h.4 ∙ ap₂ (λ x k. x ++ drop k t) (table_again 0 _ tails (tail_of (encode drawing)) (ap (λ 𝓓. 𝓓.map.tail) read_again) same_edges) same_edges,
       h.5

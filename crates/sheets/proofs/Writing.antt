@@ -2,67 +2,64 @@
 use mathlib.Core.Path.{◌≡◌, refl, sym, ◌∙◌, ap, ap₂, fun_ext}
 use mathlib.Core.Logic.{◌⊎◌, inl, inr, ◌≢◌}
 use mathlib.Core.List.{List, [], ◌∷◌, ◌++◌, append_assoc}
-use Prim.Native.Nat.{ℕ, ◌+◌, ◌%◌, ◌≤◌, ◌<◌}
+use Prim.Native.Nat.{ℕ, ◌+◌, ◌-◌, ◌%◌, ◌≤◌, ◌<◌}
 use native.Mathlib.Omega.{arith}
 use native.Mathlib.Decide.{dec_lt}
 use native.Mathlib.Numerals.{add-one}
-use lib.ListN.{length, drop, get_or-eq_default}
+use lib.ListN.{length, drop, replicate, get_or-append, get_or-eq_default}
+use lib.Seq.{get_or-append-add, get_or-drop}
 use lib.IntN.{ℤ}
-use Rattle.refusals.specs.Order.{Check, ◌when◌, in_turn, NoneOf, FirstOf, Judged}
-use Rattle.refusals.specs.declared.Verdict.{Verdict}
-use Rattle.refusals.specs.declared.Verdict.TheVariants.{Passed, Refused}
-use Rattle.refusals.proofs.Order.{none_append, append_none, in-turn-none, first_left, first_right, judged_right, neither}
+use Rattle.refusals.specs.Order.{Check, ◌when◌, in_turn, NoneOf, FirstOf}
+use Rattle.refusals.proofs.Order.{none_append, append_none, in-turn-none, first_left, first_right, neither}
 use Rattle.fields.specs.Fields.{put, le16}
 use Rattle.fields.proofs.Laws.{put_after}
-use Rattle.maps.specs.Map.{Map}
 use Rattle.maps.specs.Check.{InRange}
 use Rattle.arrays.specs.At.{at}
 use Rattle.arrays.specs.Maps.{map_of}
-use Rattle.rotations.specs.MapChecks.{map_checks, MapJudged}
+use Rattle.rotations.specs.MapChecks.{map_checks}
 use Rattle.maps.specs.Drawing.{Drawing}
 use Rattle.records.specs.Check.{number_checks, edge_checks}
 use Rattle.records.specs.Record.{record_length}
 use Rattle.records.specs.Encode.{outer_head_bytes, encode_head, encode_edge, encode_edges, encode, encode_length}
-use Rattle.records.proofs.Drawing.{drawing_range}
+use Rattle.records.proofs.Drawing.{counts_range, drawing_range}
 use Rattle.records.proofs.Places.{head-length, front_length, edge_length}
 use Rattle.sheets.specs.Write.{edges_in, slices_drawing, drawing_checks, write_checks}
-use Rattle.arrays.proofs.FillLoops.{Filling}
+use Rattle.arrays.proofs.FillLoops.{same_everywhere}
+use Rattle.sheets.proofs.PlacedRecords.{head_kept}
 
 -- ── arrays loaded from slices ──
-pub loaded : {to : List ℕ} (from : List ℕ) → Filling 0 (at from) (length from) to → (d : ℕ) → at to d ≡ at from d
-loaded {to} from φ d = go (dec_lt d (length from))
+-- a slice copied in front of zeros, as a function of the index
+loaded : {front : List ℕ} (from : List ℕ) (k n : ℕ) → front ≡ from → (d : ℕ) → at (front ++ drop k (replicate n 0)) d ≡ at from d
+loaded from k n same d = rw same (go (dec_lt d (length from)))
   where
-    go : Dec (d < length from) → at to d ≡ at from d
-    go (yes l) = φ.low d l
-    go (no l) = φ.high d (omega (arith, l)) ∙ sym (get_or-eq_default from 0 {n = d} (omega (arith, l)))
+    go : Dec (d < length from) → at (from ++ drop k (replicate n 0)) d ≡ at from d
+    go (yes l) = get_or-append from (drop k (replicate n 0)) 0 d l
+    go (no l) =
+        let far : d ≡ length from + (d - length from) = omega (arith, l) in
+        ap (at (from ++ drop k (replicate n 0))) far
+        ∙ get_or-append-add from (drop k (replicate n 0)) (d - length from) 0
+        ∙ get_or-drop k (replicate n 0) (d - length from) 0
+        ∙ same_everywhere n 0 (k + (d - length from))
+        ∙ sym (get_or-eq_default from 0 {n = d} (omega (arith, l)))
 
-pub loaded_map : (nodes edges : ℕ) (t r : List ℕ) (tails rotations : List ℕ) → ((d : ℕ) → at t d ≡ at tails d)
-    → ((d : ℕ) → at r d ≡ at rotations d) → map_of nodes edges t r ≡ map_of nodes edges tails rotations
-loaded_map nodes edges t r tails rotations p q = λ i. record { nodes = nodes; edges = edges; tail = fun_ext p i; rotation = fun_ext q i }
+pub loaded_map : (nodes : ℕ) (tails rotations : List ℕ) {front front' : List ℕ} → front ≡ tails → front' ≡ rotations
+    → map_of nodes (edges_in tails) (front ++ drop (length tails) (replicate 1024 0)) (front' ++ drop (length tails) (replicate 1024 0))
+    ≡ map_of nodes (edges_in tails) tails rotations
+loaded_map nodes tails rotations p q =
+    λ i. record {
+      nodes = nodes;
+      edges = edges_in tails;
+      tail = fun_ext (loaded tails (length tails) 1024 p) i;
+      rotation = fun_ext (loaded rotations (length tails) 1024 q) i;
+    }
 
 -- ── the checks on slices ──
-pub map_judged : (𝓜 : Map) (lefts : ℕ → ℕ) (count : ℕ) (v : Verdict) → MapJudged 𝓜 lefts count v → Judged (map_checks 𝓜) v
-map_judged 𝓜 lefts count Passed h = h.0
-map_judged 𝓜 lefts count (Refused k p) h = h
-
 module _ (𝓓 : Drawing) where
   abbrev numbers : List Check
   numbers = number_checks 𝓓.map.nodes 𝓓.map.edges 𝓓.outer
 
   abbrev turns : List Check
   turns = in_turn 𝓓.map.edges (edge_checks 𝓓)
-
-  pub refused_numbers : (k p : ℕ) → FirstOf numbers k p → FirstOf (drawing_checks 𝓓) k p
-  unfolding drawing_checks
-  refused_numbers k p h = first_left numbers (turns ++ map_checks 𝓓.map) k p h
-
-  pub refused_edges : (k p : ℕ) → NoneOf numbers → FirstOf turns k p → FirstOf (drawing_checks 𝓓) k p
-  unfolding drawing_checks
-  refused_edges k p c h = first_right numbers (turns ++ map_checks 𝓓.map) k p c (first_left turns (map_checks 𝓓.map) k p h)
-
-  pub judged_map : (v : Verdict) → NoneOf numbers → NoneOf turns → Judged (map_checks 𝓓.map) v → Judged (drawing_checks 𝓓) v
-  unfolding drawing_checks
-  judged_map v c e h = judged_right numbers (turns ++ map_checks 𝓓.map) v c (judged_right turns (map_checks 𝓓.map) v e h)
 
   pub turns_range : NoneOf turns → InRange 𝓓.map
   turns_range h = drawing_range 𝓓 (in-turn-none 𝓓.map.edges (edge_checks 𝓓) h)
@@ -76,6 +73,10 @@ module _ (𝓓 : Drawing) where
       (p.0, in-turn-none 𝓓.map.edges (edge_checks 𝓓) q.0, q.1)
 
 -- ── edges written one after another ──
+-- the head and the records of n edges, in front of what the output held
+abbrev pub Front : Drawing → ℕ → (old l : List ℕ) → Type 0
+Front 𝓓 n old l = l ≡ (encode_head 𝓓 ++ encode_edges 𝓓 n) ++ drop (encode_length n) old
+
 module _ (𝓓 : Drawing) (old : List ℕ) where
   pub write_start : (l : List ℕ) → l ≡ encode_head 𝓓 ++ drop (record_length 4) old → l ≡ (encode_head 𝓓 ++ encode_edges 𝓓 0) ++ drop (encode_length 0) old
   unfolding encode_edges
@@ -138,3 +139,6 @@ module _ (nodes outer : ℕ) (tails rotations : List ℕ) (capacities : List ℤ
         (write_checks nodes outer tails rotations capacities out)
     unfolding write_checks NoneOf
     write_whole h l = (even, none_append (drawing_checks drawn) short h ((λ s. omega arith), tt))
+
+-- what the ways out of Write stand on: what a drawing that passed has, then the refusals in order
+pub ruleset write_steps = (drawing_parts, counts_range, write_uneven, write_refused, write_short, write_whole, head_written, head_kept)

@@ -1,16 +1,15 @@
 -- Write. Document 01, "Operations": "Write takes a node count and those three slices, fills bytes and gives their number. First 16: input slices of unequal or
 -- odd length. Then 3, 4, 5, 6, 7, 9, 10, 11, 12 as for a sheet, 4 to 7 channel by channel; then 16 output shorter than the sheet." Document 02, Job 6: it
 -- takes the outer dart too "and always writes kind 4"; 24 stands right after 3.
-use Rattle.std.specs.Prelude.{ℕ, ◌/◌, ◌%◌, ◌<◌, ◌≡◌, ◌⊎◌, ◌≢◌, List, [], ◌∷◌, ◌++◌, length, drop, ℤ}
+use Rattle.std.specs.Prelude.{ℕ, ◌/◌, ◌%◌, ◌<◌, ◌≡◌, ◌⊎◌, ◌≢◌, List, [], ◌∷◌, ◌++◌, length, drop, ℤ, Result, Ok, Err}
 use Rattle.refusals.specs.Order.{Check, ◌when◌, in_turn, NoneOf, FirstOf}
+use Rattle.refusals.specs.declared.Refusal.{Refusal}
 use Rattle.arrays.specs.Maps.{map_of}
 use Rattle.rotations.specs.MapChecks.{map_checks}
 use Rattle.maps.specs.Drawing.{Drawing}
 use Rattle.records.specs.Check.{number_checks, edge_checks}
 use Rattle.records.specs.Encode.{encode, encode_length}
 use Rattle.arrays.specs.At.{atℤ}
-use Rattle.sheets.specs.declared.WriteAnswer.{WriteAnswer}
-use Rattle.sheets.specs.declared.WriteAnswer.TheVariants.{Bytes, Refused}
 
 -- two elements to an edge
 abbrev pub edges_in : List ℕ → ℕ
@@ -32,9 +31,10 @@ write_checks nodes outer tails rotations capacities out =
     ++ ((16 when length out < encode_length (edges_in tails)) ∷ []))
 
 -- the answer and the lent output; the input slices are only read
-abbrev pub Writes : (nodes outer : ℕ) (tails rotations : List ℕ) (capacities : List ℤ) (out out' : List ℕ) → WriteAnswer → Type 0
-Writes nodes outer tails rotations capacities out out' (Bytes n) =
+abbrev pub Writes : (nodes outer : ℕ) (tails rotations : List ℕ) (capacities : List ℤ) (out out' : List ℕ) → Result ℕ Refusal → Type 0
+Writes nodes outer tails rotations capacities out out' (Ok n) =
     NoneOf (write_checks nodes outer tails rotations capacities out)
     × (n ≡ encode_length (edges_in tails))
     × (out' ≡ encode (slices_drawing nodes outer tails rotations capacities) ++ drop n out)
-Writes nodes outer tails rotations capacities out out' (Refused k p) = FirstOf (write_checks nodes outer tails rotations capacities out) k p × (out' ≡ out)
+Writes nodes outer tails rotations capacities out out' (Err r) =
+    FirstOf (write_checks nodes outer tails rotations capacities out) r.number r.place × (out' ≡ out)

@@ -10,9 +10,6 @@ use Rattle.arrays.specs.At.{at, atℤ}
 use Rattle.arrays.specs.inner.Drawn.{Drawn}
 use Rattle.grouping.specs.inner.Walked.{Walked}
 use Rattle.lengths.specs.inner.Lengths.{Along, Filled}
-use Rattle.search.specs.Given.{Given}
-use Rattle.search.specs.Trace.{Searches}
-use Rattle.search.specs.declared.Outcome.{Outcome}
 use Rattle.solver.specs.inner.Named.{ApartBy, MeasuredBy, NamedBy, Named}
 
 -- by the lengths filled, of the value's bits
@@ -26,11 +23,6 @@ measured_by {𝓜} {start} {finish} {order} {from} {c} {value} {asked} {length} 
 pub measured_by_for : (𝓜 : Map) {start finish : ℕ} (from : ℕ → ℕ) (c : ℕ → ℤ) {v v' : ℤ} (length : ℕ → ℤ) (S : ℕ → Bool) (b : Bool)
     → v' ≡ v → MeasuredBy 𝓜 start finish from c v' length S b → MeasuredBy 𝓜 start finish from c v length S b
 measured_by_for 𝓜 from c length S b e h = rw (← e) h
-
--- of a known outcome
-pub searches_known : {G : Given} {queue : List ℕ} {roots : ℕ} {proposal : List ℕ} {ρ : List ℤ} {parents : List ℕ} {o p : Outcome} → o ≡ p
-    → Searches G queue roots proposal ρ parents o → Searches G queue roots proposal ρ parents p
-searches_known e h = rw (← e) h
 
 -- where the ends are not apart, the flags tell nothing
 pub measured_other : {𝓜 : Map} {start finish : ℕ} {from : ℕ → ℕ} {c : ℕ → ℤ} {value : ℤ} {length : ℕ → ℤ} {S S' : ℕ → Bool}

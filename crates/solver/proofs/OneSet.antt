@@ -33,9 +33,9 @@ use Rattle.lengths.proofs.OneWay.{same_lengths, same_joined}
 use Rattle.search.specs.Parents.{up, down}
 use Rattle.search.specs.Given.{given}
 use Rattle.search.specs.Trace.{Searches}
-use Rattle.search.specs.declared.Outcome.{Outcome}
-use Rattle.search.specs.declared.Outcome.TheVariants as outcome
 use Rattle.search.proofs.Alike.{Alike, alike_one}
+use Rattle.std.proofs.Common.{Ok, Err}
+use Rattle.search.specs.Outcome.{Outcome, closed_by}
 use Rattle.windings.specs.inner.Winding.{crossings, Round}
 use Rattle.heights.proofs.OneHeight.{same_height}
 use Rattle.thresholds.proofs.OneThreshold.{same_set}
@@ -130,10 +130,10 @@ module _ {𝓜 : Map} (σ : Sound 𝓜) {first parts : ℕ} {order from order' f
   made_one = same_set (omega arith) σ.range.tail_in lengths heights α.serves β.serves
 
 closing_of : Outcome → ℕ
-closing_of outcome.Settled = 0
-closing_of (outcome.Ring d) = d
+closing_of (Ok _) = 0
+closing_of (Err x) = x.dart
 
-closing_one : {d e : ℕ} → outcome.Ring d ≡ outcome.Ring e → d ≡ e
+closing_one : {d e : ℕ} → ◌≡◌ {A = Outcome} (closed_by d) (closed_by e) → d ≡ e
 unfolding closing_of
 closing_one h = ap closing_of h
 
@@ -180,11 +180,11 @@ module _ {𝓜 : Map} (σ : Sound 𝓜) {outer count parts : ℕ} {lefts order f
               ∙ sym (β.roots.are walked'.forest t l)
           by t (no n) = α.roots.kept t (omega (arith, n)) ∙ sym (β.roots.kept t (omega (arith, n)))
 
-      ended : (outcome.Ring α.closing ≡ outcome.Ring β.closing) × (α.parents ≡ β.parents)
+      ended : (◌≡◌ {A = Outcome} (closed_by α.closing) (closed_by β.closing)) × (α.parents ≡ β.parents)
       ended =
           alike_one alike walked.groups α.queue parts α.size α.few α.sound α.joined α.searched
           (subst (λ q. Searches (given lefts' lengths' grouped' starts' (darts 𝓜) count) q parts proposal β.potentials β.parents
-          (outcome.Ring β.closing))
+          (closed_by β.closing))
           (sym queues) β.searched)
 
       ring_one : (v : ℕ) → v < 𝓜.nodes → S v ≡ S' v

@@ -1,6 +1,5 @@
 -- Settled potentials make flows that fit: potentials are near, and the flow of an edge lies between its two capacities.
-use mathlib.Core.Path.{◌≡◌, refl, ◌∙◌, ap}
-use mathlib.Core.List.{List}
+use mathlib.Core.Path.{◌≡◌, ◌∙◌, ap}
 use Prim.Native.Nat.{ℕ, ◌+◌, ◌*◌, ◌≤◌, ◌<◌}
 use native.Mathlib.Omega.{arith}
 use lib.IntN.{ℤ, pos, negsuc, ◌+ℤ◌, ◌-ℤ◌}
@@ -11,23 +10,10 @@ use Rattle.integers.proofs.Limits.{limited_more}
 use Rattle.maps.specs.Dart.{rev}
 use Rattle.maps.proofs.Darts.{rev_rev, rev_in}
 use Rattle.search.specs.Dual.{Dual}
-use Rattle.search.specs.Parents.{ParentRing}
 use Rattle.search.specs.inner.Settled.{Settled}
-use Rattle.search.specs.declared.Outcome.{Outcome}
-use Rattle.search.specs.declared.Outcome.TheVariants as outcome
 use Rattle.edge_flows.specs.inner.Flow.{flow_of, Flowing}
 use Rattle.arrays.specs.inner.Sizes.{most_capacity}
-use Rattle.solver.specs.inner.Search.{Searchable, Searched}
-
--- of a ring, all that is said is that no flow was written and that the parents lead round it
-pub ring_kept : {N : Dual} {parent : ℕ → ℕ} {d : ℕ} (flows : List ℤ) → d < N.darts
-    → ParentRing N parent (N.left d) → (flows ≡ flows) × (d < N.darts) × ParentRing N parent (N.left d)
-ring_kept flows l r = (refl, l, r)
-
--- the outcome is known to be a ring
-pub searched_ring : (N : Dual) (edges : ℕ) (capacity : ℕ → ℤ) (flows flows' : List ℤ) (parent : ℕ → ℕ) (o : Outcome) {d : ℕ} → o ≡ outcome.Ring d
-    → Searched N edges capacity flows flows' parent o → (flows' ≡ flows) × (d < N.darts) × ParentRing N parent (N.left d)
-searched_ring N edges capacity flows flows' parent o e h = rw e at h
+use Rattle.solver.specs.inner.Search.{Searchable}
 
 mag_limited : (b : ℕ) (x : ℤ) → mag x ≤ b → Limited (b + 1) x
 mag_limited b (pos n) h = record { low = at_most (search parts) (omega arith); high = at_most (search parts) (omega arith) }

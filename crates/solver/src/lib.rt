@@ -24,7 +24,7 @@ ghost use Rattle.solver.specs.inner.Named.{MeasuredBy, MadeOfRing, Named};
 ghost use Rattle.arrays.specs.inner.Flags.{flagged};
 
 use arrays::{Demand, Sizes};
-use search::Outcome;
+use search::Ring;
 
 // Flags the nodes of the part that the dart d is in.
 fn flag_part(
@@ -108,7 +108,7 @@ fn settle(
     parents: &mut [u16; 1024],
     queue: &mut [u16; 1024],
     flows: &mut [i32],
-) -> Outcome
+) -> Result<(), Ring>
     requires { LentSearch lefts.now capacities.now lengths.now grouped.now starts.now edges faces roots parents.old queue.old flows.old }
     ensures { (length parents.new ≡ 1024)
         × Searched (dual_of lefts.now lengths.now (2 * edges) faces (take roots queue.old)) edges
@@ -120,7 +120,7 @@ fn settle(
     // What the search begins with: no face has a level, and none waits.
     let mut potentials = [2000000000000000i64; 1024];
     let mut waiting = [0u8; 1024];
-    let outcome = search::search(
+    let searched = search::search(
         lefts,
         lengths,
         grouped,
@@ -133,11 +133,10 @@ fn settle(
         &mut waiting,
         &mut *queue,
     );
-    if let Outcome::Ring(d) = outcome {
-        return Outcome::Ring(d);
+    if searched.is_ok() {
+        edge_flows::fill_flows(lefts, capacities, lengths, &potentials, edges, flows);
     }
-    edge_flows::fill_flows(lefts, capacities, lengths, &potentials, edges, flows);
-    Outcome::Settled
+    searched
 }
 
 // Searches from the faces at 0, which are read off the walk; likewise. The queue with these faces is kept here, so that the steps behind the search may lie
@@ -154,7 +153,7 @@ fn settle_all<'a>(
     sizes: Sizes,
     parents: &mut [u16; 1024],
     flows: &mut [i32],
-) -> Outcome
+) -> Result<(), Ring>
     requires { LentWalk sizes rotations.now lefts.now capacities.now lengths.now order.now from.now grouped.now starts.now parents.old
         flows.old }
     ensures { (length parents.new ≡ 1024)
@@ -271,7 +270,7 @@ pub fn decide<'a>(
     ) {
         return false;
     }
-    let outcome = settle_all(
+    let settled = settle_all(
         rotations,
         lefts,
         capacities,
@@ -284,8 +283,8 @@ pub fn decide<'a>(
         &mut *parents,
         flows,
     );
-    if let Outcome::Ring(d) = outcome {
-        let y = arrays::wide(lefts[d]);
+    if let Err(ring) = settled {
+        let y = arrays::wide(lefts[ring.dart]);
         cut_of_ring(
             tails,
             rotations,
@@ -381,7 +380,7 @@ fn decide_at<'a>(
         return false;
     }
     let mut parents = [1024u16; 1024];
-    let outcome = settle(
+    let settled = settle(
         lefts,
         capacities,
         &lengths,
@@ -394,8 +393,8 @@ fn decide_at<'a>(
         queue,
         flows,
     );
-    if let Outcome::Ring(d) = outcome {
-        let y = arrays::wide(lefts[d]);
+    if let Err(ring) = settled {
+        let y = arrays::wide(lefts[ring.dart]);
         cut_of_ring(
             tails,
             rotations,
@@ -451,11 +450,9 @@ pub fn decide_from<'a>(
         grouped,
         starts,
         Sizes {
-            nodes: sizes.nodes,
-            edges: sizes.edges,
-            faces: sizes.faces,
             parts: roots,
             outer: first,
+            ..sizes
         },
         demand,
         &mut queue,

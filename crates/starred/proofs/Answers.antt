@@ -1,7 +1,6 @@
 -- From what is known of a drawing to the lines of the table: an accepted sheet that holds the drawing gets these answers, by the contracts of the operations.
 -- What the drawing must be known by is a record for each kind of answer; the facts of one drawing are in proofs/Table.antt.
 use mathlib.Core.Path.{◌≡◌, refl, sym, ◌∙◌, subst, ap, ap₂}
-use mathlib.Core.Bool.{Bool, true, false}
 use mathlib.Core.List.{List, ◌++◌}
 use Prim.Native.Nat.{ℕ, ◌≤◌, ◌<◌}
 use native.Mathlib.Omega.{arith}
@@ -9,7 +8,10 @@ use lib.ListN.{length, get_or, drop}
 use lib.IntN.{ℤ, pos, ◌+ℤ◌}
 use lib.Signed.{◌≤ℤ◌, ◌<ℤ◌}
 use Rattle.integers.proofs.Laws.{le_trans, le_antisym}
+use Rattle.std.specs.Prelude.{Option, Some, None, Result, Ok, Err}
 use Rattle.refusals.specs.Order.{NoneOf, FirstOf}
+use Rattle.refusals.specs.Refused.{refused}
+use Rattle.refusals.specs.declared.Refusal.{Refusal}
 use Rattle.refusals.proofs.Order.{first_none, first_one, neither}
 use Rattle.maps.specs.Map.{darts}
 use Rattle.maps.specs.Face.{faces, left}
@@ -27,20 +29,15 @@ use Rattle.arrays.proofs.Tabulate.{tabulate_ext, tabulate_get_d}
 use Rattle.records.specs.Sheet.{nodes_of, edges_of, capacity_of, sheet_map, sheet_drawing, outer_of}
 use Rattle.sheets.specs.declared.Network.{Network}
 use Rattle.arrays.specs.At.{atℤ}
+use Rattle.arrays.specs.declared.Sizes.{Sizes}
 use Rattle.sheets.specs.Open.{sheet_checks, Opens}
 use Rattle.arrays.specs.Filled.{filled}
 use Rattle.questions.specs.Question.{end_checks, value_checks, room_checks, SetWritten}
 use Rattle.analyser.specs.Solve.{solve_checks, Solves}
-use Rattle.questions.specs.declared.SolveAnswer.{SolveAnswer}
-use Rattle.questions.specs.declared.SolveAnswer.TheVariants.{Can, Cannot, Refused}
+use Rattle.questions.specs.declared.Solution.{Solution}
+use Rattle.questions.specs.declared.Solution.TheVariants.{Can, Cannot}
 use Rattle.analyser.specs.Largest.{largest_checks, FindsLargest}
-use Rattle.questions.specs.declared.LargestAnswer.{LargestAnswer}
-use Rattle.questions.specs.declared.LargestAnswer.TheVariants.{Value, None}
-use Rattle.questions.specs.declared.LargestAnswer.TheVariants as largest
 use Rattle.analyser.specs.LevelsOf.{levels_checks, GivesLevels}
-use Rattle.levels.specs.declared.LevelAnswer.{LevelAnswer}
-use Rattle.levels.specs.declared.LevelAnswer.TheVariants.{Done}
-use Rattle.levels.specs.declared.LevelAnswer.TheVariants as level
 use Rattle.questions.proofs.Asked.{ends_in, ends_differ}
 use Rattle.analyser.proofs.SheetPlane.{plane, levels_unique}
 use Rattle.analyser.proofs.Accepted.{solve_none, largest_none, levels_none}
@@ -113,16 +110,16 @@ module _ {s : List ℕ} {𝓓 : Drawing} (good : Good s 𝓓) (source sink : ℕ
       k : CanBy source sink value settings (sheet_drawing s)
       k = on_sheet good (CanBy source sink value settings) by
 
-      go : (a : SolveAnswer) → Solves s source sink value flows flows' set set' a → (a ≡ Can) × (flows' ≡ front settings flows) × (set' ≡ set)
-      go Can h = (
+      go : (a : Result Solution Refusal) → Solves s source sink value flows flows' set set' a → (a ≡ Ok Can) × (flows' ≡ front settings flows) × (set' ≡ set)
+      go (Ok Can) h = (
         refl,
         filled_front (pos 0) (edges_of s) h.1.0 settings flows flows' k.long
             (one_highest s good.accepted source sink k.ends value h.1.0 (atℤ settings) h.1.1 k.highest)
             h.1.2,
         h.2,
       )
-      go (Cannot n) h = absurd (excludes s good.accepted source sink k.ends value (member h.1.0) h.1.2 (atℤ settings) k.highest.carries)
-      go (Refused j p) h = absurd (never_refused s source sink value flows flows' set set' (asked flows set k.ends room) j p h)
+      go (Ok (Cannot n)) h = absurd (excludes s good.accepted source sink k.ends value (member h.1.0) h.1.2 (atℤ settings) k.highest.carries)
+      go (Err r) h = absurd (never_refused s source sink value flows flows' set set' (asked flows set k.ends room) r h)
 
   pub solve_cannot : (words : List ℕ) (n : ℕ) → size words ≡ n → CannotBy source sink value words 𝓓 → SolveCannot s source sink value words n
   solve_cannot words n ones by flows flows' set set' answer room solved = go answer solved
@@ -130,23 +127,24 @@ module _ {s : List ℕ} {𝓓 : Drawing} (good : Good s 𝓓) (source sink : ℕ
       k : CannotBy source sink value words (sheet_drawing s)
       k = on_sheet good (CannotBy source sink value words) by
 
-      go : (a : SolveAnswer) → Solves s source sink value flows flows' set set' a → (a ≡ Cannot n) × (set' ≡ front words set) × (flows' ≡ flows)
-      go Can h = absurd (excludes s good.accepted source sink k.ends value (member words) k.proves h.1.0 h.1.1.carries)
-      go (Cannot m) h =
+      go : (a : Result Solution Refusal) → Solves s source sink value flows flows' set set' a
+          → (a ≡ Ok (Cannot n)) × (set' ≡ front words set) × (flows' ≡ flows)
+      go (Ok Can) h = absurd (excludes s good.accepted source sink k.ends value (member words) k.proves h.1.0 h.1.1.carries)
+      go (Ok (Cannot m)) h =
           let same : h.1.0 ≡ words = k.only h.1.0 h.1.1.is_set h.1.2 in
-          (ap Cannot (h.1.3 ∙ ap size same ∙ ones), set_front h.1.1 same, h.2)
-      go (Refused j p) h = absurd (never_refused s source sink value flows flows' set set' (asked flows set k.ends room) j p h)
+          (ap (λ (k : ℕ). Ok (Cannot k)) (h.1.3 ∙ ap size same ∙ ones), set_front h.1.1 same, h.2)
+      go (Err r) h = absurd (never_refused s source sink value flows flows' set set' (asked flows set k.ends room) r h)
 
 pub solve_refused : (s : List ℕ) (n : ℕ) → FirstOf (sheet_checks s) n 0 → (source sink : ℕ) (value : ℤ) → SolveRefused s source sink value n
 solve_refused s n bad source sink value flows flows' set set' answer solved = go answer solved
   where
     first : FirstOf (solve_checks s source sink value flows set) n 0
-    first = with-sheet.solve_refused s n 0 bad source sink value flows set
+    first = (with-sheet.solve_refused s (record { number = n; place = 0 }) bad source sink value flows set).0
 
-    go : (a : SolveAnswer) → Solves s source sink value flows flows' set set' a → (a ≡ Refused n 0) × (flows' ≡ flows) × (set' ≡ set)
-    go Can h = absurd (first_none (solve_checks s source sink value flows set) n 0 first h.0)
-    go (Cannot m) h = absurd (first_none (solve_checks s source sink value flows set) n 0 first h.0)
-    go (Refused j p) h = let e = first_one (solve_checks s source sink value flows set) j p n 0 h.0 first in (ap₂ Refused e.0 e.1, h.1, h.2)
+    go : (a : Result Solution Refusal) → Solves s source sink value flows flows' set set' a → (a ≡ refused n 0) × (flows' ≡ flows) × (set' ≡ set)
+    go (Ok Can) h = absurd (first_none (solve_checks s source sink value flows set) n 0 first h.0)
+    go (Ok (Cannot m)) h = absurd (first_none (solve_checks s source sink value flows set) n 0 first h.0)
+    go (Err r) h = let e = first_one (solve_checks s source sink value flows set) r.number r.place n 0 h.0 first in (ap₂ refused e.0 e.1, h.1, h.2)
 
 -- ── Largest ──
 module _ {s : List ℕ} {𝓓 : Drawing} (good : Good s 𝓓) (source sink : ℕ) where
@@ -173,9 +171,9 @@ module _ {s : List ℕ} {𝓓 : Drawing} (good : Good s 𝓓) (source sink : ℕ
       ends : (source < nodes_of s) × (sink < nodes_of s)
       ends = ends_in (nodes_of s) source sink k.ends
 
-      go : (a : LargestAnswer) → FindsLargest s source sink flows flows' set set' a
-          → (a ≡ Value value) × (flows' ≡ front settings flows) × (set' ≡ front words set)
-      go (Value v) h =
+      go : (a : Result (Option ℤ) Refusal) → FindsLargest s source sink flows flows' set set' a
+          → (a ≡ Ok (Some value)) × (flows' ≡ front settings flows) × (set' ≡ front words set)
+      go (Ok (Some v)) h =
           let above : value ≤ℤ v = nothing_greater s source sink flows flows' set set' whole v h value (atℤ settings) k.highest.carries in
           let below : v ≤ℤ value =
           le_trans
@@ -185,7 +183,7 @@ module _ {s : List ℕ} {𝓓 : Drawing} (good : Good s 𝓓) (source sink : ℕ
           let e : v ≡ value = le_antisym below above in
           let x = h.1.0 in
           let ws = h.2.0 in (
-            ap Value e,
+            ap (λ (w : ℤ). Ok (Some w)) e,
             filled_front (pos 0) (edges_of s) x settings flows flows' k.long
                 (one_highest s good.accepted source sink k.ends value x (atℤ settings)
                 (subst (λ (w : ℤ). Highest (sheet_map s) (outer_of s) (capacity_of s) source sink w x) e h.1.1) k.highest)
@@ -193,8 +191,8 @@ module _ {s : List ℕ} {𝓓 : Drawing} (good : Good s 𝓓) (source sink : ℕ
             set_front h.2.1
                 (n.only ws h.2.1.is_set (subst (λ (w : ℤ). Proves (sheet_map s) (capacity_of s) source sink (w +ℤ pos 1) (member ws)) e h.2.2)),
           )
-      go None h = absurd (none_delivered s source sink flows flows' set set' whole h value (atℤ settings) k.highest.carries)
-      go (largest.Refused j p) h = absurd (largest_answered s source sink flows flows' set set' whole j p h)
+      go (Ok None) h = absurd (none_delivered s source sink flows flows' set set' whole h value (atℤ settings) k.highest.carries)
+      go (Err r) h = absurd (largest_answered s source sink flows flows' set set' whole r h)
 
   pub largest_is_none : (words : List ℕ) → NoneBy source sink words 𝓓 → LargestNone s source sink words
   largest_is_none words by flows flows' set set' answer room found = go answer found
@@ -202,10 +200,10 @@ module _ {s : List ℕ} {𝓓 : Drawing} (good : Good s 𝓓) (source sink : ℕ
       k : NoneBy source sink words (sheet_drawing s)
       k = on_sheet good (NoneBy source sink words) by
 
-      go : (a : LargestAnswer) → FindsLargest s source sink flows flows' set set' a → (a ≡ None) × (flows' ≡ flows) × (set' ≡ front words set)
-      go (Value v) h = absurd (excludes s good.accepted source sink k.ends v (member words) (k.proves v) h.1.0 h.1.1.carries)
-      go None h = (refl, h.1, set_front h.2.1 (k.only h.2.0 h.2.1.is_set h.2.2.0 h.2.2.1))
-      go (largest.Refused j p) h = absurd (largest_answered s source sink flows flows' set set' (sought flows set k.ends room) j p h)
+      go : (a : Result (Option ℤ) Refusal) → FindsLargest s source sink flows flows' set set' a → (a ≡ Ok None) × (flows' ≡ flows) × (set' ≡ front words set)
+      go (Ok (Some v)) h = absurd (excludes s good.accepted source sink k.ends v (member words) (k.proves v) h.1.0 h.1.1.carries)
+      go (Ok None) h = (refl, h.1, set_front h.2.1 (k.only h.2.0 h.2.1.is_set h.2.2.0 h.2.2.1))
+      go (Err r) h = absurd (largest_answered s source sink flows flows' set set' (sought flows set k.ends room) r h)
 
 -- ── Levels from settings ──
 pub levels_are : {s : List ℕ} {𝓓 : Drawing} → Good s 𝓓 → (settings found : List ℤ)
@@ -225,29 +223,30 @@ levels_are {s} good settings found by more levels levels' answer room given = go
         (within_none (sheet_map s) (capacity_of s) (atℤ (settings ++ more)) k.within)
         (circulation_none (sheet_map s) (atℤ (settings ++ more)) k.balanced))
 
-    go : (a : LevelAnswer) → GivesLevels s (settings ++ more) levels levels' a → (a ≡ Done) × (levels' ≡ front found levels)
-    go Done h = (
+    go : (a : Result Unit Refusal) → GivesLevels s (settings ++ more) levels levels' a → (a ≡ Ok tt) × (levels' ≡ front found levels)
+    go (Ok tt) h = (
       refl,
       filled_front (pos 0) (faces (sheet_map s)) h.1.0 found levels levels' k.found_long
           (levels_unique s good.accepted (atℤ (settings ++ more)) h.1.0 (atℤ found) h.1.1 k.levels)
           h.1.2,
     )
-    go (level.Refused j p) h = absurd (first_none (levels_checks s (settings ++ more) levels) j p h.0 whole)
+    go (Err r) h = absurd (first_none (levels_checks s (settings ++ more) levels) r.number r.place h.0 whole)
 
 -- ── opening a sheet ──
-pub opened : {s : List ℕ} {𝓓 : Drawing} → Good s 𝓓 → (n : Network) → Opens s n n.accepted
-    → (n.accepted ≡ true) × ((d : ℕ) → d < darts 𝓓.map → InFace n.lefts (left 𝓓.map d) d)
+pub opened : {s : List ℕ} {𝓓 : Drawing} → Good s 𝓓 → (n : Network) → Opens s n n.opened
+    → ((sizes : Sizes) × (n.opened ≡ Ok sizes)) × ((d : ℕ) → d < darts 𝓓.map → InFace n.lefts (left 𝓓.map d) d)
 opened {s} {𝓓} good n h =
-    subst (λ (𝓔 : Drawing). (n.accepted ≡ true) × ((d : ℕ) → d < darts 𝓔.map → InFace n.lefts (left 𝓔.map d) d)) good.drawing (go n.accepted h)
+    subst (λ (𝓔 : Drawing). ((sizes : Sizes) × (n.opened ≡ Ok sizes)) × ((d : ℕ) → d < darts 𝓔.map → InFace n.lefts (left 𝓔.map d) d)) good.drawing
+    (go n.opened h)
   where
-    go : (b : Bool) → Opens s n b → (b ≡ true) × ((d : ℕ) → d < darts (sheet_map s) → InFace n.lefts (left (sheet_map s) d) d)
-    go true h = (refl, h.1.lefts_are)
-    go false h = absurd (first_none (sheet_checks s) n.refusal n.place h good.accepted)
+    go : (r : Result Sizes Refusal) → Opens s n r
+        → ((sizes : Sizes) × (r ≡ Ok sizes)) × ((d : ℕ) → d < darts (sheet_map s) → InFace n.lefts (left (sheet_map s) d) d)
+    go (Ok sizes) h = ((sizes, refl), h.1.lefts_are)
+    go (Err r) h = absurd (first_none (sheet_checks s) r.number r.place h good.accepted)
 
-pub refused_open : (s : List ℕ) (k : ℕ) → FirstOf (sheet_checks s) k 0
-    → (n : Network) → Opens s n n.accepted → (n.accepted ≡ false) × (n.refusal ≡ k) × (n.place ≡ 0)
-refused_open s k bad n h = go n.accepted h
+pub refused_open : (s : List ℕ) (k : ℕ) → FirstOf (sheet_checks s) k 0 → (n : Network) → Opens s n n.opened → n.opened ≡ refused k 0
+refused_open s k bad n h = go n.opened h
   where
-    go : (b : Bool) → Opens s n b → (b ≡ false) × (n.refusal ≡ k) × (n.place ≡ 0)
-    go true h = absurd (first_none (sheet_checks s) k 0 bad h.0)
-    go false h = let e = first_one (sheet_checks s) n.refusal n.place k 0 h bad in (refl, e.0, e.1)
+    go : (r : Result Sizes Refusal) → Opens s n r → r ≡ refused k 0
+    go (Ok sizes) h = absurd (first_none (sheet_checks s) k 0 bad h.0)
+    go (Err r) h = let e = first_one (sheet_checks s) r.number r.place k 0 h bad in ap₂ refused e.0 e.1

@@ -8,14 +8,6 @@ ghost use Rattle.streams.specs.inner.Input.{Filled, Gave};
 use std::io::{Error, ErrorKind, Read, Write};
 use std::{io, str};
 
-// The input ended after so many bytes, or filled the buffer; or a read failed with this error.
-#[derive(Clone, Copy)]
-pub enum Input {
-    Ended(usize),
-    Full(usize),
-    Failed(Error),
-}
-
 // Whether a call failed only because a signal came before it moved a byte: it is made again.
 fn interrupted(error: Error) -> bool {
     error.kind() == ErrorKind::Interrupted
@@ -23,7 +15,8 @@ fn interrupted(error: Error) -> bool {
 
 // Reads straight into what is left of the buffer, until the input ends or the buffer is full. A proved loop has to end, so interrupted calls are counted down,
 // from a number that no run uses up. Any other failure is one, that of a non-blocking input with nothing to read yet (EAGAIN) too: half an input has no answer.
-pub fn read_input<R: Read>(reader: &mut R, buffer: &mut [u8]) -> Input
+// Returns how many bytes stand in front of the buffer: fewer than it has places only where the input ended.
+pub fn read_input<R: Read>(reader: &mut R, buffer: &mut [u8]) -> io::Result<usize>
     ensures filled { Filled buffer.new result }
     ensures gave { Gave (R.remaining reader.old) (R.remaining reader.new) buffer.new result }
 {
@@ -33,19 +26,19 @@ pub fn read_input<R: Read>(reader: &mut R, buffer: &mut [u8]) -> Input
         match reader.read(&mut buffer[at..]) {
             Ok(n) => {
                 if n == 0 {
-                    return Input::Ended(at);
+                    return Ok(at);
                 }
                 at += n;
             }
             Err(error) => {
                 if again == 0 || !interrupted(error) {
-                    return Input::Failed(error);
+                    return Err(error);
                 }
                 again -= 1;
             }
         }
     }
-    Input::Full(at)
+    Ok(at)
 }
 
 // Writes all of the text, or answers the error of the first call that fails or takes nothing; what was written before it stays. Interrupted calls as above.

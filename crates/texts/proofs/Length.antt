@@ -2,7 +2,9 @@
 use mathlib.Core.Path.{◌≡◌, ap, ◌∙◌}
 use mathlib.Core.Logic.{⊎_elim}
 use mathlib.Core.List.{[], ◌∷◌}
-use Prim.Native.Nat.{ℕ, zero, suc, ◌+◌, ◌/◌, ◌%◌, ◌^◌, ◌<◌, ◌≤◌}
+use Prim.Native.Nat.{ℕ, zero, suc, ◌+◌, ◌*◌, ◌/◌, ◌%◌, ◌^◌, ◌<◌, ◌≤◌}
+use Rattle.std.specs.Prelude.{max}
+use native.Mathlib.Nat.{pow-suc}
 use native.Mathlib.Omega.{arith}
 use lib.ListN.{length, length-append}
 use lib.IntN.{ℤ, pos, negsuc}
@@ -27,6 +29,26 @@ decimal_length (suc k) n h =
     (λ l. omega (arith, length_one n l))
     (λ l. omega (arith, length_more n l, decimal_length k (n / 10) (tenth_below k n h)))
     (below_or_not n 10)
+
+-- ── the digits counted by the power of ten that is not above the number ──
+power_positive : (k : ℕ) → 0 < 10 ^ k
+power_positive zero = omega arith
+power_positive (suc k) = rw (pow-suc 10 k) (omega (arith, power_positive k))
+
+at_least : (k n : ℕ) → 10 ^ k ≤ n → suc k ≤ length (decimal n)
+at_least zero n h = omega (arith, decimal_positive n)
+at_least (suc k) n h =
+    let g : 10 ^ k * 10 ≤ n = rw (pow-suc 10 k) at h in
+    omega (arith, power_positive k, length_more n (omega (arith, power_positive k)), at_least k (n / 10) (omega arith))
+
+pub length_by_power : (k n m : ℕ) → m ≡ max n 1 → 10 ^ k ≤ m → m < 10 * 10 ^ k → length (decimal n) ≡ k + 1
+length_by_power k zero m e h g =
+    let zeroth : length (decimal 1) ≤ 1 = omega (arith, length_one 1 (omega arith)) in
+    omega (arith, length_one 0 (omega arith), at_least k 1 (omega arith), zeroth)
+length_by_power k (suc n) m e h g =
+    let same : m ≡ suc n = omega arith in
+    let up : suc n < 10 ^ suc k = rw (pow-suc 10 k) (omega arith) in
+    omega (arith, at_least k (suc n) (omega arith), decimal_length k (suc n) up)
 
 pub number_positive : (x : ℤ) → 0 < length (number x)
 unfolding number

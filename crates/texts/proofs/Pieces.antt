@@ -8,7 +8,7 @@ use native.Mathlib.Omega.{arith}
 use lib.ListN.{length, get_or, set, take, drop, length-append, take-append-drop}
 use lib.Seq.{take-suc, append_snoc, set_at, length-take-le, sets, length-sets}
 use Rattle.fields.specs.Fields.{put}
-use Rattle.fields.proofs.Laws.{put_length, put_sets}
+use Rattle.fields.proofs.Laws.{put_sets}
 
 sets_append : (xs ys l : List ℕ) (at : ℕ) → sets l at (xs ++ ys) ≡ sets (sets l at xs) (at + length xs) ys
 sets_append [] ys l at = ap (λ k. sets l k ys) (sym (add-zero at))
@@ -38,17 +38,6 @@ put_before at a bs l h =
     ∙ ap (λ s. set s at a) (append_snoc (take at l) (get_or l at 0) rest)
     ∙ set_at (take at l) (get_or l at 0) rest a at (length-take-le at l (omega arith))
     ∙ ap (λ k. take at l ++ a ∷ (bs ++ drop k l)) behind
-
--- a store behind the first i bytes
-pub put_next : (at i : ℕ) (bs l : List ℕ) → at + i < length l → i < length bs → set (put at (take i bs) l) (at + i) (get_or bs i 0) ≡ put at (take (i + 1) bs) l
-put_next at i bs l h g =
-    let b = get_or bs i 0 in
-    let size : length (take i bs) ≡ i = length-take-le i bs (omega arith) in
-    let fits : at + length (take i bs) + 1 ≤ length l = omega arith in
-    put_sets (at + i) (b ∷ []) (put at (take i bs) l) (omega (arith, put_length at (take i bs) l (omega arith)))
-    ∙ ap (λ k. put (at + k) (b ∷ []) (put at (take i bs) l)) (sym size)
-    ∙ sym (put_append at (take i bs) (b ∷ []) l fits)
-    ∙ ap (λ s. put at s l) (sym (ap (λ k. take k bs) (add-one i) ∙ take-suc bs i 0 g))
 
 -- a store, and the bytes behind it
 pub put_behind : (at a : ℕ) (bs l : List ℕ) → at + 1 + length bs ≤ length l → put (at + 1) bs (set l at a) ≡ put at (a ∷ bs) l

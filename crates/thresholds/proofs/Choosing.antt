@@ -1,16 +1,16 @@
 -- Thresholds tried upwards. A set of all nodes or of none has the cut 0, so a threshold with a cut below zero lies from the lowest height to the highest; the
 -- loop of `choose_set` stays at or below it, and a threshold whose cut is not below zero is not it.
-use mathlib.Core.Path.{◌≡◌, refl, ◌∙◌, ap, ap₂}
+use mathlib.Core.Path.{◌≡◌, refl, sym, ◌∙◌, ap, ap₂}
 use mathlib.Core.Logic.{◌⊎◌, inl, inr}
 use mathlib.Core.Bool.{Bool, true, false, not, ◌&&◌, true≢false}
 use Prim.Native.Nat.{ℕ, ◌<◌}
 use native.Mathlib.Omega.{arith}
 use lib.IntN.{ℤ, pos, neg_ℤ, ◌+ℤ◌, ◌-ℤ◌}
-use lib.Signed.{◌≤ℤ◌, ◌<ℤ◌, lt_z, ≤ℤ_refl}
+use lib.Signed.{◌≤ℤ◌, ◌<ℤ◌, lt_z, le_z, ≤ℤ_refl}
 use Rattle.integers.specs.Sum.{Integers, when}
 use Rattle.integers.specs.inner.Limited.{Limited}
 use Rattle.integers.proofs.Omega.{atoms₂, atoms₃, parts, positive, positive_is, at_most, less, from_at_most, from_less}
-use Rattle.integers.proofs.Laws.{le_antisym, le_of_lt, lt_or_ge, lt_le_clash, lt_of_test, ge_of_test}
+use Rattle.integers.proofs.Laws.{le_antisym, le_of_lt, lt_or_ge, lt_le_clash, lt_of_test, ge_of_test, le_of_test}
 use Rattle.integers.proofs.Sums.{sum_ext, sum_nil}
 use Rattle.integers.proofs.Tests.{of_T, either}
 use Rattle.maps.specs.Dart.{rev}
@@ -19,10 +19,6 @@ use Rattle.thresholds.specs.inner.Above.{above}
 use Rattle.thresholds.specs.inner.Choice.{Choosable, FirstServes}
 use Rattle.arrays.specs.inner.Sizes.{most_height}
 use Rattle.cuts.proofs.Adding.{reverse_in}
-
-pub not_false : (b : Bool) → not b ≡ false → b ≡ true
-not_false true e = refl
-not_false false e = absurd (true≢false e)
 
 test_of_lt : {x y : ℤ} → x <ℤ y → lt_z x y ≡ true
 test_of_lt h = of_T h.lt
@@ -33,6 +29,17 @@ test_of_ge x y h = go (either (lt_z x y))
     go : (lt_z x y ≡ true) ⊎ (lt_z x y ≡ false) → lt_z x y ≡ false
     go (inl e) = absurd (lt_le_clash (lt_of_test x y e) h)
     go (inr e) = e
+
+-- what the test of the number x says of the cut y that it is
+pub serves_not : {x y : ℤ} → x ≡ y → le_z (pos 0) x ≡ true → lt_z y (pos 0) ≡ false
+serves_not {x} {y} e t = test_of_ge y (pos 0) (le_of_test (pos 0) y (rw e at t))
+
+pub serves_here : {x y : ℤ} → x ≡ y → le_z (pos 0) x ≡ false → y <ℤ pos 0
+serves_here {x} {y} e t = go (lt_or_ge y (pos 0))
+  where
+    go : (y <ℤ pos 0) ⊎ (pos 0 ≤ℤ y) → y <ℤ pos 0
+    go (inl l) = l
+    go (inr l) = absurd (true≢false (sym (of_T l.le) ∙ rw e at t))
 
 lt_le : {x y z : ℤ} → x <ℤ y → y ≤ℤ z → x <ℤ z
 lt_le {x} {y} {z} h g = let a = atoms₃ x y z in less (search parts) (omega (arith, from_less h (search parts), from_at_most g (search parts)))

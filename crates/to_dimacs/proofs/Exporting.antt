@@ -11,8 +11,8 @@ use Rattle.texts.specs.inner.Placed.{Placed}
 use Rattle.texts.proofs.Joined.{placed_front}
 use Rattle.records.specs.Sheet.{sheet_drawing}
 use Rattle.dimacs.specs.Write.{text_of}
-use Rattle.dimacs.specs.declared.DimacsAnswer.{DimacsAnswer}
-use Rattle.dimacs.specs.declared.DimacsAnswer.TheVariants.{Bytes, Refused}
+use Rattle.std.specs.Prelude.{Ok, Err}
+use Rattle.refusals.specs.declared.Refusal.{Refusal}
 use Rattle.analyser.specs.Dimacs.{WritesDimacs}
 use Rattle.key_text.specs.Question.{source_of, sink_of, sheet_of}
 use Rattle.key_text.specs.Text.{refused_text}
@@ -27,20 +27,21 @@ module _ (b text : List ℕ) where
   question_refused text' n k p first placed = refused k p (first_left (record_checks b 3 0) _ k p first) (told k n text text' placed)
 
   module _ (whole : NoneOf (record_checks b 3 0)) (s : List ℕ) (v w : ℕ) (sheet : s ≡ sheet_of b) (source : v ≡ source_of b) (sink : w ≡ sink_of b) where
-    pub text_written : (text' : List ℕ) (n : ℕ) (r : DimacsAnswer) → r ≡ Bytes n → WritesDimacs s v w text text' r → Exports b text text' n
+    pub text_written : (text' : List ℕ) (n : ℕ) → WritesDimacs s v w text text' (Ok n) → Exports b text text' n
     unfolding export_checks
-    text_written text' n r e h = go (rw (e, sheet, source, sink) at h)
+    text_written text' n h = go (rw (sheet, source, sink) at h)
       where
-        go : WritesDimacs (sheet_of b) (source_of b) (sink_of b) text text' (Bytes n) → Exports b text text' n
+        go : WritesDimacs (sheet_of b) (source_of b) (sink_of b) text text' (Ok n) → Exports b text text' n
         go g = written (none_append (record_checks b 3 0) _ whole g.0) (g.1, g.2)
 
-    pub text_refused : (mid text' : List ℕ) (n k p : ℕ) (r : DimacsAnswer) → r ≡ Refused k p → WritesDimacs s v w text mid r
-        → Placed 0 (refused_text k) mid text' n → Exports b text text' n
+    pub text_refused : (mid text' : List ℕ) (n : ℕ) (r : Refusal) → WritesDimacs s v w text mid (Err r)
+        → Placed 0 (refused_text r.number) mid text' n → Exports b text text' n
     unfolding export_checks
-    text_refused mid text' n k p r e h placed = go (rw (e, sheet, source, sink) at h)
+    text_refused mid text' n r h placed = go (rw (sheet, source, sink) at h)
       where
-        go : WritesDimacs (sheet_of b) (source_of b) (sink_of b) text mid (Refused k p) → Exports b text text' n
-        go g = refused k p (first_right (record_checks b 3 0) _ k p whole g.0) (told k n text text' (rw g.1 at placed))
+        go : WritesDimacs (sheet_of b) (source_of b) (sink_of b) text mid (Err r) → Exports b text text' n
+        go g =
+            refused r.number r.place (first_right (record_checks b 3 0) _ r.number r.place whole g.0) (told r.number n text text' (rw g.1 at placed))
 
 -- ── within ──
 front_within : (t text text' : List ℕ) (n : ℕ) → InFront t text text' n → n ≤ length text'

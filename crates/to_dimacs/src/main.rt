@@ -5,34 +5,27 @@
 
 ghost use Rattle.to_dimacs.specs.inner.Export.{Exports};
 
-use dimacs::DimacsAnswer;
-use refusals::Verdict;
-use streams::Input;
-
 // The text of the bytes that were read, and how many bytes it has.
 fn put_text(input: &[u8], text: &mut [u8; 18463]) -> usize
     ensures { Exports input.now text.old text.new result }
 {
-    let whole = records::check_record(input, 3, 0);
-    if let Verdict::Refused(k, p) = whole {
-        return key_text::put_refused(text, k);
+    if let Err(refusal) = records::check_record(input, 3, 0) {
+        return key_text::put_refused(text, refusal.number);
     }
     let source = fields::read_u16(input, 1);
     let sink = fields::read_u16(input, 3);
     let after = records::record_length(3);
-    let answer = analyser::write_dimacs(&input[after..], source, sink, text);
-    match answer {
-        DimacsAnswer::Bytes(n) => n,
-        DimacsAnswer::Refused(k, p) => key_text::put_refused(text, k),
+    match analyser::write_dimacs(&input[after..], source, sink, text) {
+        Ok(n) => n,
+        Err(refusal) => key_text::put_refused(text, refusal.number),
     }
 }
 
 fn main(rt: HostRuntime) {
     let mut buffer = [0u8; 8721];
     let n = match streams::read_input(&mut rt.stdin(), &mut buffer) {
-        Input::Ended(n) => n,
-        Input::Full(n) => n,
-        Input::Failed(error) => {
+        Ok(n) => n,
+        Err(error) => {
             streams::tell(&rt, "to_dimacs: standard input", error);
             return;
         }

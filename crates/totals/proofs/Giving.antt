@@ -8,9 +8,11 @@ use native.Mathlib.Omega.{arith}
 use lib.Dec.{eqb}
 use lib.ListN.{length, take, drop}
 use lib.IntN.{ℤ}
+use Rattle.std.specs.Prelude.{Result, Ok, Err}
 use Rattle.integers.specs.Sum.{Naturals, bit, count}
 use Rattle.integers.proofs.Sums.{sum_ext}
 use Rattle.refusals.specs.Order.{Check, NoneOf, FirstOf}
+use Rattle.refusals.specs.declared.Refusal.{Refusal}
 use Rattle.refusals.proofs.Order.{neither, none_append, first_right}
 use Rattle.maps.specs.Map.{Map}
 use Rattle.maps.specs.Check.{InRange}
@@ -19,8 +21,6 @@ use Rattle.flows.proofs.Agreement.{cut_agrees}
 use Rattle.balance.proofs.Parts.{part_at, part_written}
 use Rattle.totals.specs.Subtotal.{subtotal, total, listed}
 use Rattle.totals.specs.Totals.{total_checks, subtotaled, TotalGiven}
-use Rattle.totals.specs.declared.TotalsAnswer.{TotalsAnswer}
-use Rattle.totals.specs.declared.TotalsAnswer.TheVariants.{Total, Refused}
 use Rattle.totals.proofs.Cutting.{total_cut, subtotal_agrees}
 use Rattle.totals.proofs.Listing.{listed_ext}
 
@@ -37,10 +37,10 @@ module _ (nodes : ℕ) (set : List ℕ) (out : List ℤ) where
   unfolding total_checks NoneOf
   both_long h g = (neither (λ a. omega arith) (λ b. omega arith), tt)
 
-pub total_after : (before : List Check) → NoneOf before → (𝓜 : Map) (c : ℕ → ℤ) (checks : List Check) (set : List ℕ) (out out' : List ℤ) (r : TotalsAnswer)
+pub total_after : (before : List Check) → NoneOf before → (𝓜 : Map) (c : ℕ → ℤ) (checks : List Check) (set : List ℕ) (out out' : List ℤ) (r : Result ℤ Refusal)
     → TotalGiven 𝓜 c checks set out out' r → TotalGiven 𝓜 c (before ++ checks) set out out' r
-total_after before passed 𝓜 c checks set out out' (Total t) h = (none_append before checks passed h.0, h.1, h.2)
-total_after before passed 𝓜 c checks set out out' (Refused k p) h = (first_right before checks k p passed h.0, h.1)
+total_after before passed 𝓜 c checks set out out' (Ok t) h = (none_append before checks passed h.0, h.1, h.2)
+total_after before passed 𝓜 c checks set out out' (Err r) h = (first_right before checks r.number r.place passed h.0, h.1)
 
 -- ── the parts lent ──
 -- the words that the nodes need say of every node what the whole slice says of it

@@ -3,7 +3,6 @@ pub mod Rounds
 pub mod Adding
 pub mod Cutting
 pub mod Listing
-pub mod Starting
 pub mod Filling
 pub mod Giving
 pub mod Examples

@@ -18,6 +18,8 @@ ghost use Rattle.totals.specs.inner.Starts.{Starts};
 ghost use Rattle.totals.specs.inner.Given.{Subtotaled};
 ghost use Rattle.totals.specs.inner.Lent.{TotalsLent};
 
+use refusals::{Refusal, refused};
+
 // How many nodes are in the set. Bits past the last node are not read.
 fn count_members(set: &[u64], nodes: usize) -> usize
     requires { WordsLent nodes set.now }
@@ -64,6 +66,7 @@ fn round_total<'a>(
     let first = share(tails, capacities, set, start);
     let mut sum = first;
     let mut d = arrays::wide(rotations[start]);
+    // A while loop: it walks along the rotations until it is back at the start.
     while d != start {
         sum = signed::plus(sum, share(tails, capacities, set, d));
         d = arrays::wide(rotations[d]);
@@ -100,10 +103,7 @@ fn fill_subtotals<'a>(
 {
     let mut total: i64 = 0;
     let mut place: usize = 0;
-    let mut next: usize = 0;
-    while next < nodes {
-        let v = next;
-        next += 1;
+    for v in 0..nodes {
         if node_sets::contains(set, v) {
             let start = arrays::wide(starts[v]);
             let sum = round_total(tails, rotations, capacities, nodes, edges, set, start);
@@ -115,13 +115,6 @@ fn fill_subtotals<'a>(
     total
 }
 
-// What is answered: the outward total of the set, or the number of a refusal and its place.
-#[derive(Clone, Copy)]
-pub enum TotalsAnswer {
-    Total(i32),
-    Refused(u8, u16),
-}
-
 // The subtotal of each node of a set, nodes rising, one element for each node in it, and the total. Nothing is written before the check.
 pub fn totals_of<'a>(
     tails: &'a [u16; 1024],
@@ -131,7 +124,7 @@ pub fn totals_of<'a>(
     edges: usize,
     set: &[u64],
     subtotals: &mut [i32],
-) -> TotalsAnswer
+) -> Result<i32, Refusal>
     requires { (nodes ≤ 1024) × (edges ≤ 512) × Sound (map_of nodes edges tails.now rotations.now)
         × ((d : ℕ) → d < 2 * edges → Limited most_on_sheet (atℤ capacities.now d)) }
     ensures { TotalGiven (map_of nodes edges tails.now rotations.now) (atℤ capacities.now)
@@ -140,12 +133,12 @@ pub fn totals_of<'a>(
 {
     let words = node_sets::words_for(nodes);
     if set.len() < words {
-        return TotalsAnswer::Refused(16, 0);
+        return refused(16);
     }
     let given = &set[0..words];
     let members = count_members(given, nodes);
     if subtotals.len() < members {
-        return TotalsAnswer::Refused(16, 0);
+        return refused(16);
     }
     let mut starts = [0u16; 1024];
     fill_starts(tails, 2 * edges, &mut starts);
@@ -159,5 +152,5 @@ pub fn totals_of<'a>(
         given,
         &mut subtotals[0..members],
     );
-    TotalsAnswer::Total(signed::narrow(total))
+    Ok(signed::narrow(total))
 }

@@ -1,9 +1,7 @@
 -- The walk over the darts from one of them: its loop, and what it reaches.
 pub mod Spreading
-pub mod Ahead
 pub mod Reach
 pub mod Forests
 pub mod Rooting
-pub mod Flagging
 pub mod Rounding
 pub mod Coming

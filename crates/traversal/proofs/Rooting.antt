@@ -28,9 +28,6 @@ module _ {rotation : ℕ → ℕ} {first : ℕ} {order from : ℕ → ℕ} {n tr
       go (no p) (no q) = omega (arith, p, q)
 
 module _ {rotation : ℕ → ℕ} {first : ℕ} {order from : ℕ → ℕ} {n trees : ℕ} (τ : Trees rotation first order from n trees) {left : ℕ → ℕ} where
-  pub rooting_start : {roots : ℕ → ℕ} → Rooting rotation first order from n trees τ left roots 0 0
-  rooting_start = record { written = λ t l. absurd (omega arith); counted = λ t l m. absurd (omega arith) }
-
   module _ {roots : ℕ → ℕ} {i count : ℕ} (ξ : Rooting rotation first order from n trees τ left roots i count) (l : i < n) where
     -- a dart marked with its own number begins a tree: the next one
     module _ (apart : (i j : ℕ) → i < n → j < n → order i ≡ order j → i ≡ j) (own : from (order i) ≡ order i) where

@@ -127,13 +127,9 @@ module _ {darts : ℕ} {rotation : ℕ → ℕ} {first : ℕ} {order from : ℕ 
   pub all_marked : darts ≤ end → (d : ℕ) → d < darts → from d ≢ unmarked
   all_marked h d l z = omega (arith, room d l z)
 
-  -- an order that is not full: the darts below `next` being marked, there are darts from `next` on
-  pub some_left : {next : ℕ} → end < darts → ((d : ℕ) → d < next → from d ≢ unmarked) → next < darts
-  some_left {next} l below = go (dec_lt next darts)
-    where
-      go : Dec (next < darts) → next < darts
-      go (yes h) = h
-      go (no h) = absurd (omega (arith, at_least_n darts end order (λ d m. ξ.listed d m (below d (omega (arith, h))))))
+  -- where all darts are marked, all are listed
+  pub all_listed : ((d : ℕ) → d < darts → from d ≢ unmarked) → darts ≤ end
+  all_listed every = at_least_n darts end order (λ d l. ξ.listed d l (every d l))
 
   -- each tree has a place of its own
   pub trees_few : trees ≤ end
@@ -181,7 +177,7 @@ all_grown {darts} {rotation} {first} {order} {from} {end} {trees} ξ some every 
     record { some = some; inside = ξ'.inside; apart = ξ'.apart; planted = ξ'.planted }
   where
     full : end ≡ darts
-    full = omega (arith, few ξ, at_least_n darts end order (λ d l. ξ.listed d l (every d l)))
+    full = omega (arith, few ξ, all_listed ξ every)
 
     ξ' : Growing darts rotation first order from darts darts trees
     ξ' = subst (λ n. Growing darts rotation first order from n n trees) full ξ

@@ -3,7 +3,7 @@
 // Over a drawing in several parts such a walk goes part by part.
 #![tactic(auto)]
 
-ghost use Rattle.std.specs.Prelude.{◌≡◌, ◌≢◌, ℕ, ◌+◌, ◌%◌, ◌<◌, ◌≤◌, length};
+ghost use Rattle.std.specs.Prelude.{◌≡◌, ◌≢◌, ℕ, ◌+◌, ◌%◌, ◌<◌, ◌≤◌, length, MatchOption};
 ghost use Rattle.arrays.specs.At.{at};
 ghost use Rattle.traversal.specs.inner.Mark.{unmarked};
 ghost use Rattle.refusals.specs.Order.{Decides};
@@ -12,16 +12,14 @@ ghost use Rattle.traversal.specs.inner.Forest.{Forest, Growing, Plantable, Roots
 ghost use Rattle.traversal.specs.inner.Rounds.{Rounds, Joinable};
 ghost use Rattle.traversal.specs.inner.FirstCome.{FirstCome, RoundedOff, Comes, Unround};
 
-// The mark of a place that has no number yet: for a dart, that it was not met. Numbers stay below 1,024.
+// The mark of a place that has no number yet: for a dart, that it was not met. Numbers stay below 1,024. An Option would double the array, and memory is fixed.
 const UNMARKED: u16 = 65535;
 
 pub fn unmark_all(label: &mut [u16; 1024])
     requires { length label.old ≡ 1024 }
     ensures { (length label.new ≡ 1024) × ((d : ℕ) → d < 1024 → at label.new d ≡ unmarked) }
 {
-    for i in 0..1024usize {
-        label[i] = UNMARKED;
-    }
+    label.fill(UNMARKED);
 }
 
 // The first dart that leaves the node v.
@@ -29,11 +27,10 @@ pub fn dart_at(tails: &[u16; 1024], darts: usize, v: usize) -> usize
     requires { (darts ≤ 1024) × ((d : ℕ) × (d < darts) × (at tails.now d ≡ v)) }
     ensures { (result < darts) × (at tails.now result ≡ v) × ((e : ℕ) → e < result → at tails.now e ≢ v) }
 {
-    let mut d: usize = 0;
-    while arrays::wide(tails[d]) != v {
-        d += 1;
-    }
-    d
+    tails
+        .iter()
+        .position(|tail| arrays::wide(*tail) == v)
+        .unwrap()
 }
 
 // Lists d at the end, as met from `origin`, unless it was met before, and answers the new end.
@@ -79,6 +76,7 @@ fn grow(
 {
     let mut head: usize = listed;
     let mut end = add(order, from, listed, d, d);
+    // A while loop: the queue `order` grows while it is read.
     while head < end {
         let p = arrays::wide(order[head]);
         let t = arrays::wide(rotations[p]);
@@ -124,10 +122,7 @@ pub fn spread_all(
     unmark_all(from);
     let mut end = grow(rotations, darts, first, 0, order, from, 0, first);
     let mut trees: usize = 1;
-    let mut next: usize = 0;
-    while next < darts {
-        let d = next;
-        next += 1;
+    for d in 0..darts {
         if from[d] == UNMARKED {
             end = grow(rotations, darts, first, trees, order, from, end, d);
             trees += 1;
@@ -136,8 +131,8 @@ pub fn spread_all(
     trees
 }
 
-// Lists the round of d: d as met from `origin`, each other dart as met from the one before it. Answers the new end, or 0 where d's node has a round already, or
-// the walk round d meets another tail or a dart that was met. `first`, `trees` and `front`, the place of `origin`, are named by the contract only.
+// Lists the round of d: d as met from `origin`, each other dart as met from the one before it. Answers the new end, or None where d's node has a round already,
+// or the walk round d meets another tail or a dart that was met. `first`, `trees` and `front`, the place of `origin`, are named by the contract only.
 fn add_round<'a>(
     tails: &'a [u16; 1024],
     rotations: &'a [u16; 1024],
@@ -151,7 +146,7 @@ fn add_round<'a>(
     end: usize,
     d: usize,
     origin: usize,
-) -> usize
+) -> Option<usize>
     requires { (length order.old ≡ 1024) × (length from.old ≡ 1024) × (length owner.old ≡ 1024) × (darts ≤ 1024)
         × ((d : ℕ) → d < darts → at rotations.now d < darts) × ((d : ℕ) → d < darts → at tails.now d < 1024)
         × (d < darts) × (origin < 1024) × (end < 1024) × (at from.old d ≡ unmarked)
@@ -160,39 +155,40 @@ fn add_round<'a>(
         × FirstCome (at rotations.now) first (at order.old) (at from.old) end × ((i : ℕ) → i < end → at from.old (at order.old i) ≢ unmarked)
         × Comes (at rotations.now) first (at order.old) (at from.old) end d origin }
     ensures { (length order.new ≡ 1024) × (length from.new ≡ 1024) × (length owner.new ≡ 1024)
-        × (result ≢ 0 → Growing darts (at rotations.now) first (at order.new) (at from.new) front result (trees + 1)
+        × MatchOption result (Unround darts (at tails.now) (at rotations.now))
+        (λ listed. Growing darts (at rotations.now) first (at order.new) (at from.new) front listed (trees + 1)
         × Rounds darts (at tails.now) (at rotations.now) (at from.new) (at owner.new)
         × (at from.new d ≢ unmarked)
-        × ((i : ℕ) → i < end → at order.new i ≡ at order.old i) × (end < result)
+        × ((i : ℕ) → i < end → at order.new i ≡ at order.old i) × (end < listed)
         × ((y : ℕ) → at from.old y ≢ unmarked → at from.new y ≢ unmarked)
-        × FirstCome (at rotations.now) first (at order.new) (at from.new) result
-        × RoundedOff (at rotations.now) (at order.new) result)
-        × (result ≡ 0 → Unround darts (at tails.now) (at rotations.now)) }
+        × FirstCome (at rotations.now) first (at order.new) (at from.new) listed
+        × RoundedOff (at rotations.now) (at order.new) listed) }
 {
     let v = arrays::wide(tails[d]);
     if owner[v] != 0 {
-        return 0;
+        return None;
     }
     owner[v] = arrays::narrow(d + 1);
     let mut last = d;
     let mut next = arrays::wide(rotations[d]);
     let mut listed = add(order, from, end, d, origin);
+    // A while loop: it walks along the rotation until it is back at d.
     while next != d {
         if from[next] != UNMARKED {
-            return 0;
+            return None;
         }
         if arrays::wide(tails[next]) != v {
-            return 0;
+            return None;
         }
         listed = add(order, from, listed, next, last);
         last = next;
         next = arrays::wide(rotations[next]);
     }
-    listed
+    Some(listed)
 }
 
-// Begins a tree at d, round by round: from each dart met it goes on to the round of its reverse. Answers the new end, or 0 where a round was not one. `first`
-// and `trees`, the trees listed before, are named by the contract only.
+// Begins a tree at d, round by round: from each dart met it goes on to the round of its reverse. Answers the new end, or None where a round was not one.
+// `first` and `trees`, the trees listed before, are named by the contract only.
 fn grow_rounds<'a>(
     tails: &'a [u16; 1024],
     rotations: &'a [u16; 1024],
@@ -204,7 +200,7 @@ fn grow_rounds<'a>(
     owner: &mut [u16; 1024],
     listed: usize,
     d: usize,
-) -> usize
+) -> Option<usize>
     requires { (length order.old ≡ 1024) × (length from.old ≡ 1024) × (length owner.old ≡ 1024) × (darts ≤ 1024) × (darts % 2 ≡ 0)
         × ((d : ℕ) → d < darts → at rotations.now d < darts) × ((d : ℕ) → d < darts → at tails.now d < 1024)
         × Growing darts (at rotations.now) first (at order.old) (at from.old) listed listed trees
@@ -212,18 +208,19 @@ fn grow_rounds<'a>(
         × Rounds darts (at tails.now) (at rotations.now) (at from.old) (at owner.old)
         × FirstCome (at rotations.now) first (at order.old) (at from.old) listed × RoundedOff (at rotations.now) (at order.old) listed }
     ensures { (length order.new ≡ 1024) × (length from.new ≡ 1024) × (length owner.new ≡ 1024)
-        × (result ≢ 0 → Growing darts (at rotations.now) first (at order.new) (at from.new) result result (trees + 1)
+        × MatchOption result (Unround darts (at tails.now) (at rotations.now))
+        (λ end. Growing darts (at rotations.now) first (at order.new) (at from.new) end end (trees + 1)
         × Rounds darts (at tails.now) (at rotations.now) (at from.new) (at owner.new)
         × (at from.new d ≢ unmarked)
         × ((y : ℕ) → at from.old y ≢ unmarked → at from.new y ≢ unmarked)
-        × FirstCome (at rotations.now) first (at order.new) (at from.new) result
-        × RoundedOff (at rotations.now) (at order.new) result)
-        × (result ≡ 0 → Unround darts (at tails.now) (at rotations.now)) }
+        × FirstCome (at rotations.now) first (at order.new) (at from.new) end
+        × RoundedOff (at rotations.now) (at order.new) end) }
 {
     let mut head: usize = listed;
     let mut end = add_round(
         tails, rotations, darts, first, trees, listed, order, from, owner, listed, d, d,
-    );
+    )?;
+    // A while loop: the queue `order` grows while it is read.
     while head < end {
         let front = head;
         let p = arrays::wide(order[front]);
@@ -232,14 +229,14 @@ fn grow_rounds<'a>(
         if from[back] == UNMARKED {
             end = add_round(
                 tails, rotations, darts, first, trees, front, order, from, owner, end, back, p,
-            );
+            )?;
         }
     }
-    end
+    Some(end)
 }
 
-// All darts, tree by tree as in `spread_all`, if the darts that leave a node are one round of the rotation, and how many trees there are; 0 if they are not.
-// `owner`, all zeros before, has 1 more than a dart of each node that some dart leaves.
+// All darts, tree by tree as in `spread_all`, if the darts that leave a node are one round of the rotation, and how many trees there are; none if they are
+// not. `owner`, all zeros before, has 1 more than a dart of each node that some dart leaves.
 pub fn spread_rounds<'a>(
     tails: &'a [u16; 1024],
     rotations: &'a [u16; 1024],
@@ -248,40 +245,34 @@ pub fn spread_rounds<'a>(
     order: &mut [u16; 1024],
     from: &mut [u16; 1024],
     owner: &mut [u16; 1024],
-) -> usize
+) -> Option<usize>
     requires { (length order.old ≡ 1024) × (length from.old ≡ 1024) × (length owner.old ≡ 1024) × (darts ≤ 1024) × (darts % 2 ≡ 0)
         × ((d : ℕ) → d < darts → at rotations.now d < darts) × ((d : ℕ) → d < darts → at tails.now d < 1024)
         × (first < darts) × ((v : ℕ) → at owner.old v ≡ 0) }
     ensures { (length order.new ≡ 1024) × (length from.new ≡ 1024) × (length owner.new ≡ 1024)
-        × (result ≢ 0 → Forest darts (at rotations.now) first (at order.new) (at from.new) result
+        × MatchOption result (Unround darts (at tails.now) (at rotations.now))
+        (λ trees. (0 < trees) × Forest darts (at rotations.now) first (at order.new) (at from.new) trees
         × Rounds darts (at tails.now) (at rotations.now) (at from.new) (at owner.new)
         × ((d : ℕ) → d < darts → at from.new d ≢ unmarked)
-        × FirstCome (at rotations.now) first (at order.new) (at from.new) darts)
-        × (result ≡ 0 → Unround darts (at tails.now) (at rotations.now)) }
+        × FirstCome (at rotations.now) first (at order.new) (at from.new) darts) }
 {
     unmark_all(from);
     let mut end = grow_rounds(
         tails, rotations, darts, first, 0, order, from, owner, 0, first,
-    );
-    if end == 0 {
-        return 0;
-    }
+    )?;
     let mut trees: usize = 1;
-    let mut next: usize = 0;
-    while end < darts {
-        let d = next;
-        next += 1;
-        if from[d] == UNMARKED {
+    for lowest in 0..darts {
+        if end == darts {
+            return Some(trees);
+        }
+        if from[lowest] == UNMARKED {
             end = grow_rounds(
-                tails, rotations, darts, first, trees, order, from, owner, end, d,
-            );
-            if end == 0 {
-                return 0;
-            }
+                tails, rotations, darts, first, trees, order, from, owner, end, lowest,
+            )?;
             trees += 1;
         }
     }
-    trees
+    Some(trees)
 }
 
 // Whether a walk met the dart d.
@@ -297,13 +288,8 @@ pub fn flag_met(tails: &[u16; 1024], from: &[u16; 1024], darts: usize, inside: &
     requires { (length inside.old ≡ 1024) × (darts ≤ 1024) × ((d : ℕ) → d < darts → at tails.now d < 1024) }
     ensures { (length inside.new ≡ 1024) × FlagsMet darts (at tails.now) (at from.now) (at inside.new) }
 {
-    for v in 0..1024usize {
-        inside[v] = 0;
-    }
-    let mut next: usize = 0;
-    while next < darts {
-        let d = next;
-        next += 1;
+    inside.fill(0);
+    for d in 0..darts {
         if from[d] != UNMARKED {
             let v = arrays::wide(tails[d]);
             inside[v] = 1;
@@ -330,14 +316,15 @@ pub fn first_faces<'a>(
         (at roots.old) (at roots.new) trees }
 {
     let mut count: usize = 0;
-    let mut i: usize = 0;
-    while count < trees {
+    for i in 0..darts {
         let d = arrays::wide(order[i]);
-        i += 1;
         let p = arrays::wide(from[d]);
         if p == d {
             roots[count] = lefts[d];
             count += 1;
+            if count == trees {
+                return;
+            }
         }
     }
 }

@@ -71,9 +71,6 @@ module _ {right parent : ℕ → ℕ} {darts y : ℕ} (r : Round right parent da
           (omega (arith, e, rest (omega (arith, e)) (omega arith)))
 
   module _ {winding : ℕ → ℤ} {x : ℕ} (ω : Walking right parent darts y winding x) where
-    pub face_in : x < 1024
-    face_in = omega (arith, ω.x_is, r.inside ω.passes)
-
     pub parent_in : {p : ℕ} → p ≡ parent x → p < darts
     parent_in e = omega (arith, e, ap parent ω.x_is, r.dart ω.passes)
 

@@ -15,8 +15,8 @@ fn cross(p: usize, winding: &mut [i16; 1024])
     ensures { (length winding.new ≡ 1024) × ((d : ℕ) → atℤ winding.new d ≡ single p d +ℤ atℤ winding.old d) }
 {
     let back = arrays::reverse(p);
-    winding[p] = signed::plus16(winding[p], 1);
-    winding[back] = signed::minus16(winding[back], 1);
+    winding[p] += 1;
+    winding[back] -= 1;
 }
 
 // Follows the parents from the face y round to y again. `winding` is all zeros before: no dart is crossed yet.
@@ -33,8 +33,9 @@ pub fn fill_winding(
         × Wound (right_of lefts.now) (at parents.now) darts y (atℤ winding.new) }
 {
     let mut x = y;
+    // No for loop: it ends where the ring closes, and how many faces it passes is not known before.
     loop {
-        let p = arrays::wide(parents[x]);
+        let p = usize::from(parents[x]);
         cross(p, winding);
         x = arrays::right(lefts, p);
         if x == y {

@@ -4,53 +4,39 @@
 // Where there is none, standard output stays empty and standard error has one line, and the exit status is zero all the same.
 #![tactic(auto)]
 
-ghost use Rattle.std.specs.Prelude.{◌≡◌, ◌≤◌, length, take};
+ghost use Rattle.std.specs.Prelude.{◌≡◌, ◌≤◌, length, take, IfSome};
 
-use practice::PracticeAnswer;
 use std::env::FillError;
 use std::io;
 use std::rt::Env;
 
-// A natural number below 2 ^ 32 in decimal digits, from a place on; 2 ^ 32 for any other word.
-fn natural(text: &[u8], from: usize) -> u64
-    ensures { result ≤ 4294967296 }
-{
-    if text.len() <= from {
-        return 4294967296;
+// A natural number below 2 ^ 32 in decimal digits; none for any other word.
+fn natural(text: &[u8]) -> Option<u32> {
+    if text.is_empty() {
+        return None;
     }
-    let mut value: u64 = 0;
-    let mut i = from;
-    while i < text.len() {
-        let digit = text[i];
-        i += 1;
-        if digit < 48 {
-            return 4294967296;
+    let mut value: u32 = 0;
+    for digit in text {
+        if !digit.is_ascii_digit() {
+            return None;
         }
-        if 57 < digit {
-            return 4294967296;
-        }
-        value = 10 * value + (digit - 48) as u64;
-        if 4294967295 < value {
-            return 4294967296;
-        }
+        value = value.checked_mul(10)?.checked_add(u32::from(*digit - 48))?;
     }
-    value
+    Some(value)
 }
 
-// Argument i in front of a word of sixteen bytes: how long it is, or 0 where it is missing or longer than the word, which then has its first bytes.
-fn argument<R: Env>(rt: &R, i: usize, word: &mut [u8; 16]) -> usize
-    ensures { result ≤ 16 }
+// Argument i in front of a word of sixteen bytes: how long it is; none where it is missing or longer than the word, which then has its first bytes.
+fn argument<R: Env>(rt: &R, i: usize, word: &mut [u8; 16]) -> Option<usize>
+    ensures { IfSome result (λ n. n ≤ 16) }
 {
-    rt.arg(i, word).unwrap_or(0)
+    rt.arg(i, word).ok()
 }
 
 // Argument i as such a number.
-fn number<R: Env>(rt: &R, i: usize) -> u64
-    ensures { result ≤ 4294967296 }
-{
+fn number<R: Env>(rt: &R, i: usize) -> Option<u32> {
     let mut text = [0u8; 16];
-    let n = argument(rt, i, &mut text);
-    natural(&text[..n], 0)
+    let n = argument(rt, i, &mut text)?;
+    natural(&text[..n])
 }
 
 // How many words the program was started with, its own name among them; 8 where they are more.
@@ -64,26 +50,18 @@ fn words<R: Env>(rt: &R) -> usize {
     8
 }
 
-// A number at 16 bits. What does not fit them is 65,535, which names no node of a practice sheet and is no number of rows.
-fn half(x: u64) -> u16 {
-    if 65535 < x {
-        return 65535;
+// A number at 16 bits. What does not fit them, or is no number, is 65,535, which names no node of a practice sheet and is no number of rows.
+fn half(number: Option<u32>) -> u16 {
+    match number {
+        Some(x) => u16::try_from(x).unwrap_or(65535),
+        None => 65535,
     }
-    x as u16
 }
 
-// A number at 32 bits with its sign, from its bits. What is too large for a value is 600,000,001, which the key refuses as that.
-fn value_of(x: u64, negative: bool) -> i32 {
-    if x == 0 {
-        return 0;
-    }
-    if 600000000 < x {
-        return if negative { -600000001 } else { 600000001 };
-    }
-    if negative {
-        return signed::of_bits((4294967296 - x) as u32);
-    }
-    signed::of_bits(x as u32)
+// A number at 32 bits with its sign. What is too large for a value is 600,000,001, which the key refuses as that.
+fn value_of(x: u32, negative: bool) -> i32 {
+    let size = x.min(600000001) as i32;
+    if negative { -size } else { size }
 }
 
 fn usage<R: Eprint>(rt: &R) {
@@ -94,24 +72,22 @@ fn refused<R: Eprint>(rt: &R, k: u8) {
     let _told = eprintln!(rt; "worksheet: refused {k}");
 }
 
-// The sheet that the first three arguments ask for: how many bytes, or 0 where there is none.
-fn make<R: Env + Eprint>(rt: &R, out: &mut [u8]) -> usize
-    ensures within { result ≤ length out.new }
-    ensures front { result ≡ length (take result out.new) }
+// The sheet that the first three arguments ask for: how many bytes, or none.
+fn make<R: Env + Eprint>(rt: &R, out: &mut [u8]) -> Option<usize>
+    ensures within { IfSome result (λ n. n ≤ length out.new) }
+    ensures front { IfSome result (λ n. n ≡ length (take n out.new)) }
 {
-    let rows = number(rt, 1);
-    let columns = number(rt, 2);
-    let seed = number(rt, 3);
-    if 4294967295 < seed {
+    let rows = half(number(rt, 1));
+    let columns = half(number(rt, 2));
+    let Some(seed) = number(rt, 3) else {
         usage(rt);
-        return 0;
-    }
-    let answer = practice::practice_sheet(half(rows), half(columns), seed as u32, out);
-    match answer {
-        PracticeAnswer::Bytes(n) => n,
-        PracticeAnswer::Refused(k, p) => {
-            refused(rt, k);
-            0
+        return None;
+    };
+    match practice::practice_sheet(rows, columns, seed, out) {
+        Ok(n) => Some(n),
+        Err(refusal) => {
+            refused(rt, refusal.number);
+            None
         }
     }
 }
@@ -124,25 +100,25 @@ fn put<R: Print + Eprint>(rt: &R, bytes: &[u8]) {
 
 fn sheet<R: Env + Print + Eprint>(rt: &R) {
     let mut out = [0u8; 8165];
-    let n = make(rt, &mut out);
-    put(rt, &out[..n]);
+    if let Some(n) = make(rt, &mut out) {
+        put(rt, &out[..n]);
+    }
 }
 
 // The last three arguments as a question record, and the sheet behind it.
 fn question<R: Env + Print + Eprint>(rt: &R) {
     let mut word = [0u8; 16];
-    let n = argument(rt, 6, &mut word);
+    let n = argument(rt, 6, &mut word).unwrap_or(0);
     let negative = word[0] == 45;
-    let size = natural(&word[..n], if negative { 1 } else { 0 });
-    if 4294967295 < size {
+    let digits = if negative && 0 < n { 1 } else { 0 };
+    let Some(size) = natural(&word[digits..n]) else {
         usage(rt);
         return;
-    }
+    };
     let mut out = [0u8; 8165];
-    let m = make(rt, &mut out);
-    if m == 0 {
+    let Some(m) = make(rt, &mut out) else {
         return;
-    }
+    };
     let mut record = [0u8; 9];
     fields::write_u8(&mut record, 0, 3);
     fields::write_u16(&mut record, 1, half(number(rt, 4)));

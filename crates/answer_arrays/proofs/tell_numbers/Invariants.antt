@@ -1,12 +1,9 @@
 -- The first i places tell the answers below i, and the others are as they were.
-use Rattle.std.proofs.Common.{◌≡◌, ◌≤◌, ◌-◌, ◌++◌, drop}
+use Rattle.std.proofs.Common.{◌≡◌, ◌++◌, drop}
 use Rattle.arrays.specs.Filled.{tabulate}
 use Rattle.pages.specs.Page.{answer_at}
 use Rattle.answer_arrays.specs.Told.{number_told}
 use Rattle.answer_arrays.proofs.tell_numbers.Given as goal
 
 abbrev pub invariant-loop-i : goal.invariant-loop-i
-invariant-loop-i l = (l.i ≤ l.page.count) × (l.answers ≡ tabulate l.i (λ j. number_told (answer_at l.page j)) ++ drop l.i l.initial.answers)
-
-abbrev pub decreases-loop-i : goal.decreases-loop-i
-decreases-loop-i l = l.count - l.i
+invariant-loop-i l = l.answers ≡ tabulate l.i (λ j. number_told (answer_at l.page j)) ++ drop l.i l.initial.answers

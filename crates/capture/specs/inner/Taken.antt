@@ -1,8 +1,7 @@
 -- What the loops over a capture know: the records looked at passed, with the tick of the last; the window's records taken into marks and capacities.
-use Rattle.std.specs.Prelude.{ℕ, ◌+◌, ◌≤◌, ◌<◌, ◌≡◌, ◌⊎◌, Bool, cond, ◌&&◌, List, eqb, ltb, length, ℤ}
+use Rattle.std.specs.Prelude.{ℕ, ◌+◌, ◌≤◌, ◌<◌, ◌≡◌, cond, List, eqb, ltb, length, ℤ, Result, Ok, Err}
 use Rattle.refusals.specs.Order.{NoneOf, FirstOf}
-use Rattle.refusals.specs.declared.Verdict.{Verdict}
-use Rattle.refusals.specs.declared.Verdict.TheVariants.{Passed, Refused}
+use Rattle.refusals.specs.declared.Refusal.{Refusal}
 use Rattle.arrays.specs.At.{at, atℤ}
 use Rattle.records.specs.Record.{record_length}
 use Rattle.capture.specs.Entry.{entry_place, tick_before, entry_checks}
@@ -17,21 +16,14 @@ pub record Passing (edges : ℕ) (b : List ℕ) (place tick : ℕ) : Type 0 wher
   pub last : tick ≡ tick_before b count
   pub passed : (i : ℕ) → i < count → NoneOf (entry_checks edges b i)
 
--- what the records before `place` come to: they have passed, or one of them is refused, by this number
-abbrev pub Stands : (edges : ℕ) → List ℕ → (place refusal tick : ℕ) → Type 0
-Stands edges b place refusal tick = ((refusal ≡ 0) × Passing edges b place tick) ⊎ ((0 < refusal) × FirstOf (records_checks edges b) refusal 0)
-
--- whether another record is to be checked: none was refused, and bytes are left
-unfoldable pub goesOn : List ℕ → (place refusal : ℕ) → Bool
-goesOn b place refusal = eqb refusal 0 && ltb place (length b)
+-- what the records before `place` come to: they have passed, with the tick of the last of them, or one of them is refused
+abbrev pub Stands : (edges : ℕ) → List ℕ → (place : ℕ) → Result ℕ Refusal → Type 0
+Stands edges b place (Ok tick) = Passing edges b place tick
+Stands edges b place (Err r) = FirstOf (records_checks edges b) r.number r.place
 
 -- the place behind the record at `place`: a record's length farther, or the end of the capture where that is nearer
 unfoldable pub place_behind : List ℕ → ℕ → ℕ
 place_behind b place = cond (ltb (length b) (place + record_length 5)) (length b) (place + record_length 5)
-
--- what is said of all records
-unfoldable pub verdict_of : ℕ → Verdict
-verdict_of k = cond (eqb k 0) Passed (Refused k 0)
 
 -- the mark of a channel: 1 once it is seen
 abbrev pub mark : Seen → ℕ
@@ -50,6 +42,6 @@ pub record Taken (c : ℕ → ℤ) (b : List ℕ) (first k : ℕ) (marks : List 
   pub capacities_are : (d : ℕ) → atℤ capacities d ≡ laid c b first k d
 
 -- what comes of the checks on a capture and on the limits found: they are judged in order, and where none holds the capacities are those found
-abbrev pub LimitsTaken : (edges : ℕ) → (c c' : ℕ → ℤ) → List ℕ → (w n : ℕ) → Verdict → Type 0
-LimitsTaken edges c c' b w n Passed = NoneOf (taking_checks edges c b w n) × ((d : ℕ) → c' d ≡ found c b w n d)
-LimitsTaken edges c c' b w n (Refused k p) = FirstOf (taking_checks edges c b w n) k p
+abbrev pub LimitsTaken : (edges : ℕ) → (c c' : ℕ → ℤ) → List ℕ → (w n : ℕ) → Result Unit Refusal → Type 0
+LimitsTaken edges c c' b w n (Ok done) = NoneOf (taking_checks edges c b w n) × ((d : ℕ) → c' d ≡ found c b w n d)
+LimitsTaken edges c c' b w n (Err r) = FirstOf (taking_checks edges c b w n) r.number r.place

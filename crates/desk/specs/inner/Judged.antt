@@ -1,13 +1,11 @@
 -- Claim and set of a paper judged by numbers alone: the outward total of the set, and whether it holds the source and the sink.
-use Rattle.std.specs.Prelude.{ℕ, ◌+◌, ◌≡◌, Bool, cond, ℤ, pos, neg_ℤ, ◌+ℤ◌, ◌<ℤ◌}
+use Rattle.std.specs.Prelude.{ℕ, ◌+◌, ◌≡◌, Bool, cond, ℤ, pos, neg_ℤ, ◌+ℤ◌, ◌<ℤ◌, Option, Some, None}
 use Rattle.desk.specs.Paper.{Earns}
-use Rattle.desk.specs.declared.Delivery.{Delivery}
-use Rattle.desk.specs.declared.Delivery.TheVariants.{Value, None}
 
-abbrev pub IsValue : Delivery → ℤ → Type 0
-IsValue d v = d ≡ Value v
+abbrev pub IsValue : Option ℤ → ℤ → Type 0
+IsValue d v = d ≡ Some v
 
-abbrev pub IsNone : Delivery → Type 0
+abbrev pub IsNone : Option ℤ → Type 0
 IsNone d = d ≡ None
 
 -- a set with this outward total proves the value impossible: what `bound` says of a set that holds the source and the sink so
@@ -19,12 +17,12 @@ abbrev pub NoneBy : (total : ℤ) → (from into : Bool) → Type 0
 NoneBy total from into = (from ≡ into) × (total <ℤ pos 0)
 
 -- as `LastSix`
-abbrev pub ValuePoints : (v : ℤ) → (claim : Delivery) → (total : ℤ) → (from into : Bool) → ℕ → Type 0
+abbrev pub ValuePoints : (v : ℤ) → (claim : Option ℤ) → (total : ℤ) → (from into : Bool) → ℕ → Type 0
 ValuePoints v claim total from into n = (b c : ℕ) × Earns (IsValue claim v) 3 b × Earns (ProvesBy total (v +ℤ pos 1) from into) 3 c × (n ≡ b + c)
 
-abbrev pub NonePoints : (claim : Delivery) → (total : ℤ) → (from into : Bool) → ℕ → Type 0
+abbrev pub NonePoints : (claim : Option ℤ) → (total : ℤ) → (from into : Bool) → ℕ → Type 0
 NonePoints claim total from into n = Earns (IsNone claim × NoneBy total from into) 6 n
 
-abbrev pub LastSixBy : (largest claim : Delivery) → (total : ℤ) → (from into : Bool) → ℕ → Type 0
-LastSixBy (Value v) claim total from into n = ValuePoints v claim total from into n
+abbrev pub LastSixBy : (largest claim : Option ℤ) → (total : ℤ) → (from into : Bool) → ℕ → Type 0
+LastSixBy (Some v) claim total from into n = ValuePoints v claim total from into n
 LastSixBy None claim total from into n = NonePoints claim total from into n

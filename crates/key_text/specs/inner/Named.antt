@@ -1,13 +1,12 @@
 -- The proving set in a key is the one that the search names (`NamedSet`): that this decides it is what `OneKey` says, so nobody need believe it.
-use Rattle.std.specs.Prelude.{ℕ, ◌≡◌, List, take}
+use Rattle.std.specs.Prelude.{ℕ, ◌≡◌, List, take, Result, Ok, Err}
 use Rattle.refusals.specs.Order.{NoneOf}
+use Rattle.refusals.specs.declared.Refusal.{Refusal}
 use Rattle.flows.specs.ProvingSet.{Proves, SetOf, member, size}
 use Rattle.records.specs.Sheet.{nodes_of, capacity_of, sheet_map, sheet_drawing}
 use Rattle.questions.specs.inner.Named.{NamedSet}
 use Rattle.key_text.specs.Question.{source_of, sink_of, value_of, sheet_of, key_checks}
 use Rattle.key_text.specs.Text.{cannot_text}
-use Rattle.key_text.specs.declared.KeyAnswer.{KeyAnswer}
-use Rattle.key_text.specs.declared.KeyAnswer.TheVariants.{Bytes, Refused}
 
 -- where the bytes are not refused and some set proves the delivery impossible, t is the text of the set that the search names
 abbrev pub NamedText : (b t : List ℕ) → Type 0
@@ -23,6 +22,6 @@ abbrev pub KeyNamed : (b text' : List ℕ) → ℕ → Type 0
 KeyNamed b text' n = NamedText b (take n text')
 
 -- where a key is written
-abbrev pub WriteNamed : (b text' : List ℕ) → KeyAnswer → Type 0
-WriteNamed b text' (Bytes n) = KeyNamed b text' n
-WriteNamed b text' (Refused k p) = Unit
+abbrev pub WriteNamed : (b text' : List ℕ) → Result ℕ Refusal → Type 0
+WriteNamed b text' (Ok n) = KeyNamed b text' n
+WriteNamed b text' (Err r) = Unit

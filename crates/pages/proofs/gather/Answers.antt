@@ -1,14 +1,12 @@
--- One question more: the list that `with_question` answers with is the next of `gathered`.
-use Rattle.std.proofs.Common.{arith, refl}
-use Rattle.pages.specs.Question.{question_at}
-use Rattle.pages.proofs.Listing.{gathered_start, gathered_next}
+-- The slice's front in front of the list is the list gathered.
+use mathlib.Core.Path.{◌≡◌, sym}
+use native.Mathlib.Omega.{arith}
+use borrow.Author.Rules.{rules}
+use lib.ListN.{length}
+use Rattle.pages.proofs.Listing.{gathered_front}
 use Rattle.pages.proofs.gather.Goals as goal
 
-pub loop-i-init : goal.loop-i-init
-loop-i-init c = (omega arith, gathered_start _ _)
-
-pub loop-i-preserved : goal.loop-i-preserved
-loop-i-preserved c = (
-  omega arith,
-  gathered_next (question_at c.args.questions.now) c.args.list c.loop-i.next _ c.loop-i.i _ c.loop-i.invariant.1 refl c.with_question-next.ensures,
-)
+pub returns : goal.returns
+returns c =
+    let long : length c.args.list.questions ≡ 64 = search rules in
+    rw c.copy_from_slice.ensures.after (sym (gathered_front c.args.questions.now c.args.list c.args.n c.requires.0 (omega (arith, c.requires.1, long))))

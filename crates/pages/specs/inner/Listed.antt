@@ -1,15 +1,12 @@
 -- Questions copied from a lent slice into a list of at most 64, one by one.
 use Rattle.std.specs.Prelude.{ℕ, zero, suc, min, set, replicate}
-use Rattle.refusals.specs.declared.Verdict.TheVariants as verdict
 use Rattle.maps.specs.Drawing.{Drawing}
 use Rattle.questions.specs.Solve.{question_checks, Solved}
 use Rattle.questions.specs.inner.Named.{SetNamed}
-use Rattle.questions.specs.declared.SolveAnswer.TheVariants.{Refused}
 use Rattle.pages.specs.Question.{blank}
 use Rattle.pages.specs.Page.{Alone}
 use Rattle.pages.specs.declared.Question.{Question}
 use Rattle.pages.specs.declared.Listed.{Listed}
-use Rattle.pages.specs.declared.Page.{Page}
 
 -- a list for n questions, with none in it
 abbrev pub emptyList : ℕ → Listed
@@ -34,7 +31,3 @@ solved_alone 𝓓 q flows flows' set set' answer =
     Solved 𝓓 (question_checks 𝓓.map.nodes 𝓓.map.edges q.source q.sink q.value flows set)
     q.source q.sink q.value flows flows' set set' answer
     × SetNamed 𝓓 q.source q.sink q.value set' answer
-
--- a page without answers
-abbrev pub refused_page : (number place : ℕ) → Page
-refused_page number place = record { verdict = verdict.Refused number place; count = 0; answers = replicate 64 (record { answer = Refused 0 0 }) }

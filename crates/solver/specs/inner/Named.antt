@@ -14,7 +14,7 @@ use Rattle.lengths.specs.inner.Lengths.{Along}
 use Rattle.search.specs.Dual.{dual_of, WellFormed, Joined}
 use Rattle.search.specs.Given.{given}
 use Rattle.search.specs.Trace.{Searches}
-use Rattle.search.specs.declared.Outcome.TheVariants as outcome
+use Rattle.search.specs.Outcome.{closed_by}
 use Rattle.windings.specs.inner.Winding.{Round, Wound}
 use Rattle.heights.specs.inner.Heights.{HeightsOf}
 use Rattle.thresholds.specs.inner.Choice.{FirstServes}
@@ -60,7 +60,7 @@ pub record RingNamed (𝓜 : Map) (outer count parts : ℕ) (lefts order from gr
   pub parents : List ℕ
   pub closing : ℕ
   pub closing_in : closing < darts 𝓜
-  pub searched : Searches (given lefts lengths grouped starts (darts 𝓜) count) queue parts proposal potentials parents (outcome.Ring closing)
+  pub searched : Searches (given lefts lengths grouped starts (darts 𝓜) count) queue parts proposal potentials parents (closed_by closing)
   pub made : MadeOfRing 𝓜 (right_of lefts) (atℤ lengths) (at order) (at from) (at parents) (at lefts closing) S
 
 -- true: by the parts of source and sink; false: by a ring

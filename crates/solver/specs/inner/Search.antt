@@ -1,6 +1,6 @@
 -- The three steps of a decision: the lengths of the darts for a value, the search on the dual graph, which ends with flows or with a ring,
 -- and the set of nodes made from a ring.
-use Rattle.std.specs.Prelude.{◌≡◌, Bool, true, false, List, ℕ, ◌*◌, ◌≤◌, ◌<◌, ℤ, pos, ◌+ℤ◌, ◌≤ℤ◌}
+use Rattle.std.specs.Prelude.{◌≡◌, Bool, true, false, List, ℕ, ◌*◌, ◌≤◌, ◌<◌, ℤ, pos, ◌+ℤ◌, ◌≤ℤ◌, Ok, Err}
 use Rattle.integers.specs.inner.Limited.{Limited}
 use Rattle.maps.specs.Dart.{rev}
 use Rattle.maps.specs.Map.{Map, darts, head}
@@ -9,9 +9,8 @@ use Rattle.arrays.specs.Filled.{filled}
 use Rattle.search.specs.Dual.{Dual, WellFormed, Joined}
 use Rattle.search.specs.Parents.{ParentRing}
 use Rattle.search.specs.inner.Settled.{Settled}
-use Rattle.search.specs.declared.Outcome.{Outcome}
-use Rattle.search.specs.declared.Outcome.TheVariants as outcome
 use Rattle.search.specs.inner.OfMap.{OfMap}
+use Rattle.search.specs.Outcome.{Outcome}
 use Rattle.flows.specs.inner.Plane.{Plane}
 use Rattle.flows.specs.inner.UnitFlow.{Carrier}
 use Rattle.flows.specs.inner.Lengths.{length_for}
@@ -42,9 +41,9 @@ pub record Searchable (N : Dual) (edges : ℕ) (capacity : ℕ → ℤ) : Type 0
   pub sums : (d : ℕ) → d < N.darts → N.length d +ℤ N.length (rev d) ≡ capacity d +ℤ capacity (rev d)
 
 abbrev pub Searched : Dual → (edges : ℕ) → (ℕ → ℤ) → (flows flows' : List ℤ) → (parent : ℕ → ℕ) → Outcome → Type 0
-Searched N edges capacity flows flows' parent outcome.Settled =
+Searched N edges capacity flows flows' parent (Ok _) =
     (ρ : ℕ → ℤ) × Settled N ρ × (flows' ≡ filled edges (flow_of N.left capacity N.length ρ) flows)
-Searched N edges capacity flows flows' parent (outcome.Ring d) = (flows' ≡ flows) × (d < N.darts) × ParentRing N parent (N.left d)
+Searched N edges capacity flows flows' parent (Err r) = (flows' ≡ flows) × (r.dart < N.darts) × ParentRing N parent (N.left r.dart)
 
 -- a ring of parents on the dual of a plane map
 pub record Ringed (𝓜 : Map) (N : Dual) (parent : ℕ → ℕ) (y : ℕ) : Type 0 where

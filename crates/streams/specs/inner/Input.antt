@@ -1,17 +1,14 @@
 -- What reading an input into a buffer leaves.
-use Rattle.std.specs.Prelude.{ℕ, ◌≤◌, ◌≡◌, List, Option, length, take}
+use Rattle.std.specs.Prelude.{ℕ, ◌<◌, ◌≤◌, List, Option, Result, Ok, Err, length, take}
 use Rattle.std.specs.Io.KnownBytes.{Consumes, IsAtEnd}
-use Rattle.streams.specs.declared.Input.{Input}
-use Rattle.streams.specs.declared.Input.TheVariants.{Ended, Full, Failed}
+use Rattle.std.specs.declared.io.Error.{Error}
 
--- the bytes of an input that ended stand in the buffer; more can follow only where the buffer is full
-abbrev pub Filled : List ℕ → Input → Type 0
-Filled buffer (Ended n) = n ≤ length buffer
-Filled buffer (Full n) = n ≡ length buffer
-Filled buffer (Failed e) = Unit {0}
+-- so many bytes of the input stand in front of the buffer
+abbrev pub Filled : List ℕ → Result ℕ Error → Type 0
+Filled buffer (Ok n) = n ≤ length buffer
+Filled buffer (Err e) = Unit {0}
 
--- of a reader whose bytes are known: what stands in the buffer is what it gave, and it ended only where it has no more to give
-abbrev pub Gave : (known known' : Option (List ℕ)) → List ℕ → Input → Type 0
-Gave known known' buffer (Ended n) = Consumes known known' (take n buffer) × IsAtEnd known'
-Gave known known' buffer (Full n) = Consumes known known' buffer
-Gave known known' buffer (Failed e) = Unit {0}
+-- of a reader whose bytes are known: what stands in front of the buffer is what it gave, and it has no more to give where the buffer is not full
+abbrev pub Gave : (known known' : Option (List ℕ)) → List ℕ → Result ℕ Error → Type 0
+Gave known known' buffer (Ok n) = Consumes known known' (take n buffer) × (n < length buffer → IsAtEnd known')
+Gave known known' buffer (Err e) = Unit {0}

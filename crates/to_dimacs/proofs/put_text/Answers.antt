@@ -5,10 +5,10 @@ use Rattle.key_text.proofs.Answering.{question_whole}
 use Rattle.to_dimacs.proofs.Exporting.{question_refused, text_written, text_refused}
 use Rattle.to_dimacs.proofs.put_text.Goals as goal
 
-pub returns-in-Refused : goal.returns-in-Refused
-returns-in-Refused c =
-    question_refused c.args.input.now c.args.text.now c.put_refused.new.text c.put_refused.result c.in-Refused.k c.in-Refused.p
-    c.in-Refused.ensures c.put_refused.ensures
+pub returns-in-Err : goal.returns-in-Err
+returns-in-Err c =
+    question_refused c.args.input.now c.args.text.now c.put_refused.new.text c.put_refused.result c.in-Err.refusal.number c.in-Err.refusal.place
+    c.in-Err.ensures c.put_refused.ensures
 
 pub read_u16-source-requires : goal.read_u16-source-requires
 read_u16-source-requires c = let whole = question_whole c.args.input.now c.in_default.ensures in omega arith
@@ -22,13 +22,13 @@ slice_bounds-write_dimacs-count c = let whole = question_whole c.args.input.now 
 pub slice_bounds-write_dimacs-start : goal.slice_bounds-write_dimacs-start
 slice_bounds-write_dimacs-start c = let whole = question_whole c.args.input.now c.in_default.ensures in omega (arith, c.record_length-after.ensures.0)
 
-pub returns-in-Bytes : goal.returns-in-Bytes
-returns-in-Bytes c =
+pub returns-in-Ok : goal.returns-in-Ok
+returns-in-Ok c =
     text_written c.args.input.now c.args.text.now c.in_default.ensures _ _ _ (sym (rest c.args.input.now _ c.record_length-after.ensures.0))
-    c.read_u16-source.ensures c.read_u16-sink.ensures _ _ c.write_dimacs-answer.result c.in-Bytes.is c.write_dimacs-answer.ensures
+    c.read_u16-source.ensures c.read_u16-sink.ensures _ _ c.in-Ok.ensures
 
-pub returns-in-Refused-answer : goal.returns-in-Refused-answer
-returns-in-Refused-answer c =
+pub returns-in-Err-write_dimacs : goal.returns-in-Err-write_dimacs
+returns-in-Err-write_dimacs c =
     text_refused c.args.input.now c.args.text.now c.in_default.ensures _ _ _ (sym (rest c.args.input.now _ c.record_length-after.ensures.0))
-    c.read_u16-source.ensures c.read_u16-sink.ensures _ _ _ _ _ c.write_dimacs-answer.result c.in-Refused-answer.is c.write_dimacs-answer.ensures
-    c.put_refused-in-Refused-answer.ensures
+    c.read_u16-source.ensures c.read_u16-sink.ensures _ _ _ c.in-Err-write_dimacs.refusal c.in-Err-write_dimacs.ensures
+    c.put_refused-in-Err-write_dimacs.ensures

@@ -2,10 +2,8 @@
 use Rattle.practice.proofs.Statements.{front_counted}
 use Rattle.worksheet.proofs.make.Goals as goal
 
-pub returns-in-Bytes-clause-within : goal.returns-in-Bytes-clause-within
-returns-in-Bytes-clause-within g c =
-    (front_counted c.half.result c.half-2.result c.number-seed.result c.args.out.now c.practice_sheet-answer.new.out c.in-Bytes.n c.in-Bytes.ensures).0
+pub returns-in-Ok-clause-within : goal.returns-in-Ok-clause-within
+returns-in-Ok-clause-within g c = (front_counted _ _ _ c.args.out.now c.practice_sheet.new.out c.in-Ok.n c.in-Ok.ensures).0
 
-pub returns-in-Bytes-clause-front : goal.returns-in-Bytes-clause-front
-returns-in-Bytes-clause-front g c =
-    (front_counted c.half.result c.half-2.result c.number-seed.result c.args.out.now c.practice_sheet-answer.new.out c.in-Bytes.n c.in-Bytes.ensures).1
+pub returns-in-Ok-clause-front : goal.returns-in-Ok-clause-front
+returns-in-Ok-clause-front g c = (front_counted _ _ _ c.args.out.now c.practice_sheet.new.out c.in-Ok.n c.in-Ok.ensures).1

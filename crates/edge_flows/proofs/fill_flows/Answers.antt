@@ -1,0 +1,12 @@
+use mathlib.Core.Path.{◌∙◌}
+use native.Mathlib.Omega.{arith}
+use Rattle.signed.proofs.Laws.{number_of_bits}
+use Rattle.arrays.proofs.FillLoops.{copy_start, copy_step}
+use Rattle.edge_flows.proofs.fill_flows.Goals as goal
+
+pub loop-e-init : goal.loop-e-init
+loop-e-init c = copy_start _ _
+
+pub loop-e-preserved : goal.loop-e-preserved
+loop-e-preserved c =
+    copy_step _ c.loop-e.e _ _ _ c.loop-e.invariant (omega arith) (number_of_bits _ (record { sfits = c.flow_of.type_inv }) ∙ c.flow_of.ensures)

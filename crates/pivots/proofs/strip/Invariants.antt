@@ -1,0 +1,6 @@
+-- The node reached is one.
+use Rattle.std.proofs.Common.{◌<◌}
+use Rattle.pivots.proofs.strip.Given as goal
+
+abbrev pub invariant-loop : goal.invariant-loop
+invariant-loop l = l.w < 1024

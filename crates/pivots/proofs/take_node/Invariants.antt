@@ -1,0 +1,6 @@
+-- What is crossed is a dart.
+use Rattle.std.proofs.Common.{◌<◌}
+use Rattle.pivots.proofs.take_node.Given as goal
+
+abbrev pub invariant-loop : goal.invariant-loop
+invariant-loop l = l.d < 1024

@@ -1,0 +1,6 @@
+-- The head of a sheet is written field by field: at each place a field stands behind the one before, and `head_placed` joins them into one piece.
+use Rattle.practice.proofs.Writing.{head_placed}
+use Rattle.practice.proofs.write_head.Goals as goal
+
+pub returns : goal.returns
+returns c = let a = c.args in head_placed a.out.now a.nodes a.edges c.requires c.write_u8.ensures c.write_u16.ensures c.write_u16-2.ensures

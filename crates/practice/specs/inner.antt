@@ -1,2 +1,0 @@
--- What inner functions are proved with: no operation's contract and no printed statement rests on these.
-pub mod Numbered
