@@ -114,7 +114,7 @@ def constants():
         "KEY_INPUT_BYTES": question + outer_head + channel * channels,
         "KEY_TEXT_BYTES": said("key_text/specs/Key.antt", r"^text_room = (\d+)"),
         "PRACTICE_BYTES": head + channel * 2 * side * (side - 1),
-        "DIMACS_BYTES": said("analyser/specs/Statements.antt", r"longest : .*\(Bytes n\) → n ≤ (\d+)"),
+        "DIMACS_BYTES": said("analyser/specs/Statements.antt", r"longest : .*\(Ok n\) → n ≤ (\d+)"),
     }
 
 

@@ -409,9 +409,12 @@ def operation(file, name):
     return made
 
 
+STANDARD = {"Option", "Result"}  # types of Rattle's library: no page of ours prints them
+
+
 def type_names(made):
-    """The types that a declaration or a signature names: capitalised, with the crate before them if they are written so."""
+    """The types of ours that a declaration or a signature names: capitalised, with the crate before them if they are written so."""
     text = made.signature if made.kind == "operation" else "\n".join(made.code)
     text = "\n".join(line.split("//")[0] for line in text.split("\n"))
-    own = {made.name, "Self", *made.constructors}
+    own = {made.name, "Self", *made.constructors, *STANDARD}
     return [name for name in re.findall(r"(?:\w+::)*\b[A-Z]\w+", text) if name not in own]
