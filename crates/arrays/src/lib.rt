@@ -1,7 +1,7 @@
-// What every function on arrays uses: indices widened and narrowed, the reverse of a dart, and the face right of it.
+// What every function on arrays uses: indices widened and narrowed, the reverse of a dart, the face right of it, and a copy.
 #![tactic(auto)]
 
-ghost use Rattle.std.specs.Prelude.{◌≡◌, ◌<◌};
+ghost use Rattle.std.specs.Prelude.{◌≡◌, ◌<◌, length};
 ghost use Rattle.maps.specs.Dart.{rev};
 ghost use Rattle.arrays.specs.Maps.{right_of};
 
@@ -60,4 +60,15 @@ pub fn right(lefts: &[u16; 1024], d: usize) -> usize
 {
     let r = reverse(d);
     wide(lefts[r])
+}
+
+// Copies a slice into one of the same length. It is a loop, and not std's `copy_from_slice`, which compares the addresses of the two slices: for a machine with
+// addresses of 32 bits, the proved module would have to be changed.
+pub fn copy<T: Copy>(from: &[T], to: &mut [T])
+    requires { length to.old ≡ length from.now }
+    ensures { to.new ≡ from.now }
+{
+    for i in 0..to.len() {
+        to[i] = from[i];
+    }
 }

@@ -13,7 +13,7 @@ pub fn put_bytes(text: &mut [u8], at: usize, bytes: &[u8]) -> usize
     ensures { Placed at bytes.now text.old text.new result }
 {
     let end = at + bytes.len();
-    text[at..end].copy_from_slice(bytes);
+    arrays::copy(bytes, &mut text[at..end]);
     end
 }
 
