@@ -37,6 +37,12 @@ put_sets at bs l h = sets-eq bs l at h ∙ append_assoc (take at l) bs (drop (at
 pub put_one : (at b : ℕ) (l : List ℕ) → at + 1 ≤ length l → set l at b ≡ put at (b ∷ []) l
 put_one at b l = put_sets at (b ∷ []) l
 
+pub put_two : (at a b : ℕ) (l : List ℕ) → at + 2 ≤ length l → set (set l at a) (at + 1) b ≡ put at (a ∷ b ∷ []) l
+put_two at a b l h = rw add-one (put_sets at (a ∷ b ∷ []) l h)
+
+pub put_four : (at a b c d : ℕ) (l : List ℕ) → at + 4 ≤ length l → set (set (set (set l at a) (at + 1) b) (at + 2) c) (at + 3) d ≡ put at (a ∷ b ∷ c ∷ d ∷ []) l
+put_four at a b c d l h = rw (add-one, add-two, add-three) (put_sets at (a ∷ b ∷ c ∷ d ∷ []) l h)
+
 -- a part of a slice that is written over holds what is put
 pub put_part : (at n : ℕ) (l bs part : List ℕ) → part ≡ bs → n ≡ length bs → put_mid at n l part ≡ put at bs l
 unfolding put

@@ -42,19 +42,25 @@ pub fn write_u8(s: &mut [u8], at: usize, n: u8)
 }
 
 // A field of 16 bits at `at`.
-#[tactic(auto, using(crate::proofs::Laws::put_part), unfolding(crate::specs::Fields::le16))]
+#[tactic(auto, using(crate::proofs::Laws::put_two), unfolding(crate::specs::Fields::le16))]
 pub fn write_u16(s: &mut [u8], at: usize, n: u16)
     requires { at + 2 ≤ length s.old }
     ensures { s.new ≡ put at (le16 n) s.old }
 {
-    s[at..at + 2].copy_from_slice(&n.to_le_bytes());
+    let [low, high] = n.to_le_bytes();
+    s[at] = low;
+    s[at + 1] = high;
 }
 
 // A field of 32 bits at `at`, with its sign.
-#[tactic(auto, using(crate::proofs::Laws::put_part), unfolding(crate::specs::Fields::le32, crate::specs::Fields::le_bits))]
+#[tactic(auto, using(crate::proofs::Laws::put_four), unfolding(crate::specs::Fields::le32, crate::specs::Fields::le_bits))]
 pub fn write_i32(s: &mut [u8], at: usize, x: i32)
     requires { at + 4 ≤ length s.old }
     ensures { s.new ≡ put at (le32 x) s.old }
 {
-    s[at..at + 4].copy_from_slice(&x.to_le_bytes());
+    let [a, b, c, d] = x.to_le_bytes();
+    s[at] = a;
+    s[at + 1] = b;
+    s[at + 2] = c;
+    s[at + 3] = d;
 }
