@@ -65,7 +65,7 @@ pub fn fill_lengths(
     ensures { (length lengths.new ≡ 1024)
         × Filled darts start finish (at order.now) (at from.now) (atℤ capacities.now) value (atℤ lengths.new) result }
 {
-    lengths[..darts].copy_from_slice(&capacities[..darts]);
+    arrays::copy(&capacities[..darts], &mut lengths[..darts]);
     let down = climb(order, from, darts, finish, value, lengths);
     let against = signed::minus(0, value);
     let up = climb(order, from, darts, start, against, lengths);

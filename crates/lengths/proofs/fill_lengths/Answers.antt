@@ -21,14 +21,14 @@ turned value against fits e = number_of_bits _ (record { sfits = fits }) ∙ e
 
 pub climb-up-requires : goal.climb-up-requires
 climb-up-requires c =
-    let same = copied c.args.capacities.now _ c.copy_from_slice.ensures.after (omega (arith, c.requires.1.few)) in
+    let same = copied c.args.capacities.now _ c.copy.ensures (omega (arith, c.requires.1.few)) in
     let e = c.climb-down.ensures in
     (e.0, up_climbable (fill_by_bits c.requires.1) same e.1 (turned c.args.value _ c.minus-against.type_inv c.minus-against.ensures))
 
 pub returns : goal.returns
 returns c =
     let p = c.requires.1 in
-    let same = copied c.args.capacities.now _ c.copy_from_slice.ensures.after (omega (arith, c.requires.1.few)) in
+    let same = copied c.args.capacities.now _ c.copy.ensures (omega (arith, c.requires.1.few)) in
     let e = c.climb-up.ensures in
     let turn = turned c.args.value _ c.minus-against.type_inv c.minus-against.ensures in
     (e.0, fill_from_bits p.small (both_filled (fill_by_bits p) same c.climb-down.ensures.1 turn e.1))
