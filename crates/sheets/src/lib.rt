@@ -177,7 +177,7 @@ pub fn copy_front<T: Copy>(from: &[T; 1024], to: &mut [T])
     ensures { (past : T) → to.new ≡ tabulate (length to.old) (λ d. get_or from.now d past) }
 {
     let n = to.len();
-    to.copy_from_slice(&from[..n]);
+    arrays::copy(&from[..n], to);
 }
 
 // What Read tells: both counts and a dart on the outer face.
@@ -287,8 +287,8 @@ fn check_slices(
     let mut from = [0u16; 1024];
     let mut grouped = [0u16; 1024];
     let mut starts = [0u16; 1024];
-    all_tails[..tails.len()].copy_from_slice(tails);
-    all_rotations[..tails.len()].copy_from_slice(rotations);
+    arrays::copy(tails, &mut all_tails[..tails.len()]);
+    arrays::copy(rotations, &mut all_rotations[..tails.len()]);
     rotations::check_map(
         &all_tails,
         &all_rotations,

@@ -6,4 +6,4 @@ use Rattle.sheets.proofs.Reading.{front_copied}
 use Rattle.sheets.proofs.copy_front.Goals as goal
 
 pub returns : goal.returns
-returns g c = λ past. c.copy_from_slice.ensures.after ∙ front_copied (length c.args.to.now) c.args.from.now past (omega arith)
+returns g c = λ past. c.copy.ensures ∙ front_copied (length c.args.to.now) c.args.from.now past (omega arith)
