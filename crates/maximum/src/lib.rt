@@ -85,7 +85,7 @@ fn middle(low: i32, high: i32) -> i32
     requires { (low ≤ℤ high) × Limited 600000000 low × Limited 600000000 high }
     ensures { (low ≤ℤ result) × (result ≤ℤ high) × (low <ℤ high → low <ℤ result) }
 {
-    high - (high - low) / 2
+    high - signed::halve(high - low)
 }
 
 // The value to probe next. The high bound is the answer if it is carried; the value nearest to zero is the likeliest to be carried, and no use once one is
@@ -647,7 +647,7 @@ pub fn maximize_on<'a>(
         demand.source demand.sink flows.old flows.new a.new result }
 {
     let carried = demand.value;
-    flows.copy_from_slice(known);
+    arrays::copy(known, &mut *flows);
     let likely = begin(
         tails,
         rotations,

@@ -1,5 +1,5 @@
 -- The flow that is known is copied, the high bound may be tried and lowered, and what is found from there is told of the slice as it was before.
-use Rattle.std.proofs.Common.{◌≡◌, refl, sym, ◌∙◌, subst, arith, Bool, true, List, None, ℕ, ◌*◌, ◌<◌, ℤ, length, w32, to_z, of_z, SFits}
+use Rattle.std.proofs.Common.{◌≡◌, refl, sym, ◌∙◌, ap, subst, arith, Bool, true, List, None, ℕ, ◌*◌, ◌<◌, ℤ, length, w32, to_z, of_z, SFits}
 use Rattle.integers.specs.inner.Limited.{Limited}
 use Rattle.signed.proofs.Laws.{number_of_bits}
 use Rattle.signed.proofs.Limits.{same_bits}
@@ -69,10 +69,14 @@ module _ {n : Sizes} {s t : ℕ} {tails rotations lefts : List ℕ} {capacities 
         set A' high' l).0 in
         rw (same_bits (omega arith) (high_small n.outer ground k.ceiling)) k
 
-pub copy_from_slice-requires : goal.copy_from_slice-requires
-copy_from_slice-requires c =
+-- a flow that is known has a place for each edge
+known_long : {n : ℕ} {known : List ℤ} (x : ℕ → ℤ) (old : List ℤ) → known ≡ filled n x old → length old ≡ n → length known ≡ n
+known_long {n} {known} x old e l = filled_length n x old known e (omega (arith, l)) ∙ l
+
+pub copy-requires : goal.copy-requires
+copy-requires c =
     let k = c.requires.4 in
-    c.requires.0.exact ∙ sym (filled_length c.args.sizes.edges k.0 k.1 c.args.known.now k.3 (omega (arith, k.4)) ∙ k.4)
+    c.requires.0.exact ∙ sym (known_long k.0 k.1 k.3 k.4)
 
 pub try_likely-requires : goal.try_likely-requires
 try_likely-requires c =
@@ -81,11 +85,11 @@ try_likely-requires c =
     let b = c.begin-likely.ensures in (
       c.args.flows.now,
       record {
-        lent = record { opened = p.0.opened; ends = p.0.ends; exact = c.copy_from_slice.ensures.len ∙ p.0.exact };
+        lent = record { opened = p.0.opened; ends = p.0.ends; exact = ap length c.copy.ensures ∙ known_long k.0 k.1 k.3 k.4 };
         small = p.1;
         size_a = b.0;
         size_b = refl;
-        bracket = first p.0 p.1 k.1 k.2 k.3 k.4 c.copy_from_slice.ensures.after b.1 (record { sfits = c.capacity.type_inv }) c.capacity.ensures _;
+        bracket = first p.0 p.1 k.1 k.2 k.3 k.4 c.copy.ensures b.1 (record { sfits = c.capacity.type_inv }) c.capacity.ensures _;
       },
     )
 
@@ -97,7 +101,7 @@ returns-in_err-tried c =
     let none : c.from_residual.result ≡ None = c.from_residual.ensures in (
       e.0,
       rw none (e.2 c.args.flows.now
-          (first p.0 p.1 k.1 k.2 k.3 k.4 c.copy_from_slice.ensures.after c.begin-likely.ensures.1 (record { sfits = c.capacity.type_inv })
+          (first p.0 p.1 k.1 k.2 k.3 k.4 c.copy.ensures c.begin-likely.ensures.1 (record { sfits = c.capacity.type_inv })
           c.capacity.ensures _)),
     )
 
@@ -108,7 +112,7 @@ close_in-requires c =
     let e = c.in_ok-tried.ensures in
     let found = c.in_ok-tried.tried.found in
     let held = e.2 c.args.flows.now
-    (first p.0 p.1 k.1 k.2 k.3 k.4 c.copy_from_slice.ensures.after c.begin-likely.ensures.1 (record { sfits = c.capacity.type_inv }) c.capacity.ensures _) in (
+    (first p.0 p.1 k.1 k.2 k.3 k.4 c.copy.ensures c.begin-likely.ensures.1 (record { sfits = c.capacity.type_inv }) c.capacity.ensures _) in (
       record {
         lent = record { opened = p.0.opened; ends = p.0.ends; exact = as_long p.0 p.1 found held };
         small = p.1;
@@ -125,7 +129,7 @@ returns c =
     let k = p.4 in
     let r = c.in_ok-tried.tried in
     let held = c.in_ok-tried.ensures.2 c.args.flows.now
-    (first p.0 p.1 k.1 k.2 k.3 k.4 c.copy_from_slice.ensures.after c.begin-likely.ensures.1 (record { sfits = c.capacity.type_inv }) c.capacity.ensures _) in (
+    (first p.0 p.1 k.1 k.2 k.3 k.4 c.copy.ensures c.begin-likely.ensures.1 (record { sfits = c.capacity.type_inv }) c.capacity.ensures _) in (
       c.close_in.ensures.1,
       told_before c.args.sizes.outer (ground p.0 p.1) c.args.flows.now c.try_likely.new.flows c.propose-high.new.a c.try_likely.new.b _ _ r.found
           (lowered_bits p.0 p.1 r.found held c.propose-high.ensures.2.1) c.close_in.new.flows c.close_in.new.a c.close_in.result c.close_in.ensures.2,
