@@ -147,7 +147,7 @@ pub fn keep(flows: &[i32], edges: usize, offer: &mut [i32])
     requires { (edges ≤ length flows.now) × (edges ≤ length offer.old) }
     ensures { offer.new ≡ filled edges (atℤ flows.now) offer.old }
 {
-    offer[..edges].copy_from_slice(&flows[..edges]);
+    arrays::copy(&flows[..edges], &mut offer[..edges]);
 }
 
 // Whether the limits left can be lowered by the offer: it keeps within them.

@@ -16,4 +16,4 @@ table_of n l h = sym (tabulate_get_d n (take n l) (pos 0) (length-take-le n l h)
 pub returns : goal.returns
 returns c =
     let a = c.args in
-    ap (λ l. l ++ drop a.edges a.offer.now) (c.copy_from_slice.ensures.after ∙ table_of a.edges a.flows.now c.requires.0)
+    ap (λ l. l ++ drop a.edges a.offer.now) (c.copy.ensures ∙ table_of a.edges a.flows.now c.requires.0)
