@@ -77,7 +77,7 @@ pub fn gather(questions: &[Question], n: usize, list: Listed) -> Listed
     ensures { result ≡ gathered (question_at questions.now) n list }
 {
     let mut all = list.questions;
-    all[..n].copy_from_slice(&questions[..n]);
+    arrays::copy(&questions[..n], &mut all[..n]);
     Listed {
         count: list.count,
         questions: all,

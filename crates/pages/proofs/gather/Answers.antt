@@ -9,4 +9,4 @@ use Rattle.pages.proofs.gather.Goals as goal
 pub returns : goal.returns
 returns c =
     let long : length c.args.list.questions ≡ 64 = search rules in
-    rw c.copy_from_slice.ensures.after (sym (gathered_front c.args.questions.now c.args.list c.args.n c.requires.0 (omega (arith, c.requires.1, long))))
+    rw c.copy.ensures (sym (gathered_front c.args.questions.now c.args.list c.args.n c.requires.0 (omega (arith, c.requires.1, long))))
