@@ -84,10 +84,10 @@ pub fn start(
     *nodes = arrays::narrow(sizes.nodes);
     *edges = arrays::narrow(sizes.edges);
     *outer = arrays::narrow(sizes.outer);
-    tails.copy_from_slice(&net.tails);
-    rotations.copy_from_slice(&net.rotations);
-    limits.copy_from_slice(&net.capacities);
-    left.copy_from_slice(&net.capacities);
+    arrays::copy(&net.tails, tails);
+    arrays::copy(&net.rotations, rotations);
+    arrays::copy(&net.capacities, limits);
+    arrays::copy(&net.capacities, left);
     Ok(())
 }
 
@@ -290,6 +290,6 @@ pub fn clear<'a>(
         ≡ cleared (shared_of nodes edges outer tails.now rotations.now limits.now left.old
         standing.old first.now second.now) }
 {
-    left.copy_from_slice(limits);
+    *left = *limits;
     *standing = [IDLE; 2];
 }
