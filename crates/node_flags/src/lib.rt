@@ -27,7 +27,7 @@ pub fn copy_flags(from: &[u8; 1024], to: &mut [u8; 1024])
     requires { length to.old ≡ 1024 }
     ensures { (length to.new ≡ 1024) × ((u : ℕ) → u < 1024 → flagged to.new u ≡ flagged from.now u) }
 {
-    *to = *from;
+    arrays::copy(from, to);
 }
 
 // The flag of a node in the union, from its flags in the two sets.

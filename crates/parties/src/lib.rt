@@ -290,6 +290,6 @@ pub fn clear<'a>(
         ≡ cleared (shared_of nodes edges outer tails.now rotations.now limits.now left.old
         standing.old first.now second.now) }
 {
-    *left = *limits;
+    arrays::copy(limits, left);
     *standing = [IDLE; 2];
 }
