@@ -63,7 +63,7 @@ pub fn right(lefts: &[u16; 1024], d: usize) -> usize
 }
 
 // Copies a slice into one of the same length. It is a loop, and not std's `copy_from_slice`, which compares the addresses of the two slices: for a machine with
-// addresses of 32 bits, the proved module would have to be changed.
+// addresses of 32 bits, the proved module would have to be changed. That one, and the assignment of a lent array, would also have the library call `memmove`.
 pub fn copy<T: Copy>(from: &[T], to: &mut [T])
     requires { length to.old ≡ length from.now }
     ensures { to.new ≡ from.now }
