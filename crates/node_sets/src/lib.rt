@@ -62,8 +62,9 @@ pub fn count_set(words: &[u64], nodes: usize) -> usize
 {
     let n = words_for(nodes);
     let mut total: usize = 0;
-    for word in &words[..n] {
-        total += word.count_ones() as usize;
+    // A for over places: an iterator over the slice hands out addresses, and the module's text would have to be changed for machines of 32 bits.
+    for i in 0..n {
+        total += words[i].count_ones() as usize;
     }
     total
 }
