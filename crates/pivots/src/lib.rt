@@ -50,8 +50,9 @@ fn fill_slacks(capacities: &[i32; 1024], edges: usize, flows: &[i32], slacks: &m
 
 // Marks the edges that the tree of the faces crosses. A face without a parent has the mark 1,024, whose half is no edge.
 fn mark_crossed(parents: &[u16; 1024], faces: usize, crossed: &mut [u8; 1024]) {
-    for parent in parents.iter().take(faces) {
-        crossed[place(*parent / 2)] = 1;
+    // A for over places: an iterator over the array hands out addresses, and the module's text would have to be changed for machines of 32 bits.
+    for f in 0..faces {
+        crossed[place(parents[f % 1024] / 2)] = 1;
     }
 }
 
