@@ -12,7 +12,12 @@ fn lowest(heights: &[i32; 1024], nodes: usize) -> i32
     requires { (0 < nodes) × (nodes ≤ 1024) }
     ensures { ((v : ℕ) → v < nodes → result ≤ℤ atℤ heights.now v) × ((v : ℕ) × (v < nodes) × (result ≡ atℤ heights.now v)) }
 {
-    heights[..nodes].iter().copied().min().unwrap()
+    // A for over places: an iterator over the slice hands out addresses, and the module's text would have to be changed for machines of 32 bits.
+    let mut low = heights[0];
+    for v in 1..nodes {
+        low = low.min(heights[v]);
+    }
+    low
 }
 
 // Flags the nodes above the threshold.
