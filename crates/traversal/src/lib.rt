@@ -27,10 +27,13 @@ pub fn dart_at(tails: &[u16; 1024], darts: usize, v: usize) -> usize
     requires { (darts ≤ 1024) × ((d : ℕ) × (d < darts) × (at tails.now d ≡ v)) }
     ensures { (result < darts) × (at tails.now result ≡ v) × ((e : ℕ) → e < result → at tails.now e ≢ v) }
 {
-    tails
-        .iter()
-        .position(|tail| arrays::wide(*tail) == v)
-        .unwrap()
+    // A for over places: an iterator over the array hands out addresses, and the module's text would have to be changed for machines of 32 bits.
+    for d in 0..darts {
+        if arrays::wide(tails[d]) == v {
+            return d;
+        }
+    }
+    unreachable!()
 }
 
 // Lists d at the end, as met from `origin`, unless it was met before, and answers the new end.
