@@ -38,13 +38,15 @@ fn check_levels(levels: &[i32], roots: &[u16; 1024], count: usize) -> Result<(),
     requires { (count ≤ 1024) × ((m : ℕ) → m < count → at roots.now m < length levels.now) }
     ensures { Judged (level_checks (length levels.now) (OneOf (at roots.now) count) (atℤ levels.now)) result }
 {
-    for &level in levels {
-        if level_outside(level) {
+    // A for over places: an iterator over the slice hands out addresses, and the module's text would have to be changed for machines of 32 bits.
+    for f in 0..levels.len() {
+        if level_outside(levels[f]) {
             return refused(19);
         }
     }
-    for &root in &roots[0..count] {
-        if levels[arrays::wide(root)] != 0 {
+    // A for over places, as above.
+    for m in 0..count {
+        if levels[arrays::wide(roots[m])] != 0 {
             return refused(20);
         }
     }
