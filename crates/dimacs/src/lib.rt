@@ -33,7 +33,13 @@ fn some_negative(capacities: &[i32; 1024], darts: usize) -> bool
     requires { darts ≤ 1024 }
     ensures { Decides (BelowZero darts (atℤ capacities.now)) result }
 {
-    capacities[..darts].iter().any(|c| *c < 0)
+    // A for over places: an iterator over the slice hands out addresses, and the module's text would have to be changed for machines of 32 bits.
+    for d in 0..darts {
+        if capacities[d] < 0 {
+            return true;
+        }
+    }
+    false
 }
 
 // How long the line of an arc is: its three numbers, and "a", three spaces and the line feed.
