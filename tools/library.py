@@ -84,27 +84,17 @@ def proved_module():
     return text
 
 
-# An Option of an address as the text has it: the variant at 0 and the address at 8. As a pair the address would stand at 4 where it has 32 bits.
-PARTS = r"""  \1.of = load i8, ptr \2, align 8
-  \1.at = getelementptr i8, ptr \2, i64 8
-  \1.to = load ptr, ptr \1.at, align 8
-  \1.one = insertvalue { i8, ptr } poison, i8 \1.of, 0
-  \1 = insertvalue { i8, ptr } \1.one, ptr \1.to, 1"""
-
-
 def for_machine(text, machine):
-    """The module's text for another machine: its triple and data layout; no probes of the stack, no processor of x86-64; an address as a number of 64 bits, which
-    std's copies compare, is widened there, and one in an Option is read where the text wrote it; and a small result is given as a whole word, which C callers there take for granted, and on x86-64 do not."""
+    """The module's text for another machine: its triple and data layout; no probes of the stack, no processor of x86-64; and a small result is given as a whole
+    word, which C callers there take for granted, and on x86-64 do not."""
     text = re.sub("^target datalayout = .*", f'target datalayout = "{machine.layout}"', text, flags=re.M)
     text = re.sub("^target triple = .*", f'target triple = "{machine.triple}"', text, flags=re.M)
     text = re.sub(r' "(?:probe-stack|stack-probe-size|target-cpu)"="[^"]*"', "", text)
-    text = re.sub(r"= ptrtoaddr (ptr %\w+) to i64$", r"= ptrtoint \1 to i64", text, flags=re.M)
-    text = re.sub(r"^  (%\w+) = load \{ i8, ptr \}, ptr (%\w+), align 8$", PARTS, text, flags=re.M)
-    if re.search(r"(?:load|store) \{ (?!ptr, i64 \})[^}]*ptr", text):
-        raise Fault("an address is read or written in a pair that is not known: see PARTS")
     text, changed = re.subn("^define noundef i8 @analyser_", "define noundef zeroext i8 @analyser_", text, flags=re.M)
     if changed != sum(function.result for function in bindings.functions()) or "x86" in re.sub("^source_filename.*|^; ModuleID.*", "", text, flags=re.M):
         raise Fault("the module is not of the form that is known: see for_machine")
+    if re.search(r"\bptrtoaddr\b|\b(?:load|store) \{ (?!ptr, i64 \})[^}]*\bptr\b", text):
+        raise Fault("the module holds an address as a number, or in a pair whose layout is another one at 32 bits: write a loop over places there")
     return text
 
 
