@@ -2,7 +2,7 @@
 // Each function writes at a place and returns the place behind.
 #![tactic(auto)]
 
-ghost use Rattle.std.specs.Prelude.{◌≡◌, ◌+◌, ◌%◌, ◌≤◌, length};
+ghost use Rattle.std.specs.Prelude.{◌≡◌, ◌+◌, ◌%◌, ◌≤◌, length, nat_abs};
 ghost use Rattle.texts.specs.Decimal.{digit, decimal, number};
 ghost use Rattle.texts.specs.inner.Placed.{Placed};
 
@@ -45,13 +45,19 @@ pub fn put_decimal(text: &mut [u8], at: usize, n: u32) -> usize
     end
 }
 
+// How far a number is from zero. The least i32 is 2,147,483,648 from zero, which fits no i32, so the size is a u32.
+fn magnitude(x: i32) -> u32
+    ensures { result ≡ nat_abs x }
+{
+    x.unsigned_abs()
+}
+
 // A number in base ten, with the minus sign (45) before it if it is below zero.
-// The least i32 is 2,147,483,648 from zero, which fits no i32, so the size is a u32.
 pub fn put_number(text: &mut [u8], at: usize, x: i32) -> usize
     requires { at + length (number x) ≤ length text.old }
     ensures { Placed at (number x) text.old text.new result }
 {
-    let size = x.unsigned_abs();
+    let size = magnitude(x);
     if x < 0 {
         text[at] = 45;
         put_decimal(text, at + 1, size)
