@@ -154,7 +154,9 @@ fn last_six(largest: Option<i32>, claim: Option<i32>, total: i32, from: bool, in
     }
 }
 
-// The largest value, by Largest into arrays that every answer fits in, which end here.
+// The largest value, by Largest into arrays that every answer fits in, which end here. It is not inlined, so that they, and the record that Largest holds, are
+// no part of the frame under which each paper is marked.
+#[inline(never)]
 fn find_largest(sheet: &[u8], source: u16, sink: u16) -> Option<i32>
     requires { Asked sheet.now source sink }
     ensures { IsLargest sheet.now source sink result }
