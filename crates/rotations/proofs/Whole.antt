@@ -49,12 +49,12 @@ module _ {𝓜 : Map} (range : InRange 𝓜) {from owner : ℕ → ℕ} (ρ : Ro
   }
 
 -- ── where it failed the map is not sound ──
--- all darts are listed, and a node has none
 pub unround_unsound : {𝓜 : Map} → Sound 𝓜 → Unround (darts 𝓜) 𝓜.tail 𝓜.rotation → ⊥
 unround_unsound σ (astray x l h) = h (σ.same_tail x l)
 unround_unsound σ (merged x y l m h e) = h (σ.injective x y l m e)
 unround_unsound σ (parted x y l m e h) = h (σ.one_round x y l m e)
 
+-- all darts are listed, and a node has none
 pub empty_unsound : {𝓜 : Map} {from owner : ℕ → ℕ} → Sound 𝓜 → Rounds (darts 𝓜) 𝓜.tail 𝓜.rotation from owner
     → ((d : ℕ) → d < darts 𝓜 → from d ≢ unmarked) → ((v : ℕ) × (v < 𝓜.nodes) × (owner v ≡ 0)) → ⊥
 empty_unsound {owner = owner} σ ρ every e =
