@@ -50,7 +50,14 @@ void *__aeabi_memmove4(void *, const void *, size_t) SAME(memmove);
 void *__aeabi_memmove8(void *, const void *, size_t) SAME(memmove);
 
 #if __ARM_ARCH == 6
-// ARMv6-M has no division, and multiplies and shifts 32 bits only. A result of two words has the first word in its lower half.
+// ARMv6-M has no division, does not count leading zeros, and multiplies and shifts 32 bits only. A result of two words has the first word in its lower half.
+// Nobody asks for the leading zeros of 0.
+WEAK int __clzsi2(uint32_t value) {
+    int zeros = 0;
+    for (int half = 16; half; half /= 2)
+        if (value >> (32 - half) == 0) value <<= half, zeros += half;
+    return zeros;
+}
 static uint64_t pair(uint32_t low, uint32_t high) { return (uint64_t)high << 32 | low; }
 WEAK uint64_t __aeabi_uidivmod(uint32_t what, uint32_t by) {
     uint32_t quotient = 0, bit = 1;
