@@ -51,7 +51,7 @@ void *__aeabi_memmove8(void *, const void *, size_t) SAME(memmove);
 
 #if __ARM_ARCH == 6
 // ARMv6-M has no division, does not count leading zeros, and multiplies and shifts 32 bits only. A result of two words has the first word in its lower half.
-// Nobody asks for the leading zeros of 0.
+// The unit never asks for the leading zeros of 0.
 WEAK int __clzsi2(uint32_t value) {
     int zeros = 0;
     for (int half = 16; half; half /= 2)
